@@ -1,0 +1,25 @@
+//! The words that every crate uses: lists of numbers and bytes, short names, values that wrap, and
+//! places in a source.
+#![tactic(auto)]
+
+mod bytes;
+mod combine;
+mod name;
+mod number_lists;
+mod numbers;
+mod place;
+mod source;
+#[cfg(test)]
+mod tests;
+mod value;
+mod wanting;
+
+pub use bytes::Bytes;
+pub use combine::{Combine, combining_laws};
+pub use name::Name;
+pub use number_lists::NumberLists;
+pub use numbers::Numbers;
+pub use place::{Offence, Place, Places, Role};
+pub use source::{SourceCause, SourceFault, SourcePlace, SourceStop};
+pub use value::{minus, negated, plus, remainder, times};
+pub use wanting::Memory;
