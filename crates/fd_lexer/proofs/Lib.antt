@@ -1,0 +1,10 @@
+pub mod Numbers
+pub mod ByPiece
+pub mod Pieces
+pub mod Places
+pub mod Fits
+pub mod Spelling
+pub mod Cover
+pub mod Steps
+pub mod Back
+pub mod Determined

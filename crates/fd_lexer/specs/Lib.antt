@@ -1,0 +1,5 @@
+pub mod Bytes
+pub mod Piece
+pub mod Place
+pub mod Tokens
+pub mod Laws

@@ -1,0 +1,14 @@
+//! The tokens of a source.
+#![tactic(auto)]
+
+mod cursor;
+mod laws;
+mod lexer;
+mod piece;
+#[cfg(test)]
+mod tests;
+mod token;
+
+pub use laws::token_laws;
+pub use lexer::tokens;
+pub use token::{Token, TokenKind, TokenList, Tokens};

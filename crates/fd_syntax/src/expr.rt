@@ -1,0 +1,44 @@
+use crate::{Arith, Scalar, Terms};
+use fd_words::{Name, SourcePlace};
+use sqlite_items::Boxed;
+
+/// The subscript of an element: the index of the FORALL and an offset, an index array's element and an
+/// offset, or a scalar.
+#[derive(Debug, Drop)]
+pub enum Subscript {
+    Plain {
+        add: Terms,
+    },
+    Through {
+        index_array: Name,
+        at: SourcePlace,
+        inner_add: Terms,
+        add: Terms,
+    },
+    Scalar(Scalar),
+}
+
+/// An element of an array.
+#[derive(Debug, Drop)]
+pub struct Element {
+    pub name: Name,
+    pub at: SourcePlace,
+    pub subscript: Subscript,
+}
+
+/// An expression in the body of a FORALL.
+#[derive(Debug, Drop)]
+pub enum Expr {
+    Number(i64),
+    Named {
+        name: Name,
+        at: SourcePlace,
+    },
+    Read(Element),
+    Negate(Boxed<Expr>),
+    Binary {
+        op: Arith,
+        left: Boxed<Expr>,
+        right: Boxed<Expr>,
+    },
+}
