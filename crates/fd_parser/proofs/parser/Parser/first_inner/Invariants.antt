@@ -1,0 +1,13 @@
+use Rattle.std.proofs.Common.{◌≡◌, ◌≤◌, List, length}
+use Rattle.fd_syntax.specs.declared.statement.BodyStatement.{BodyStatement}
+use Rattle.fd_grammar.specs.Machine.{State, FirstInner, run}
+use Rattle.fd_parser.proofs.parser.Parser.first_inner.Given as goal
+
+abbrev pub invariant-loop-self : goal.invariant-loop-self
+invariant-loop-self l = record {
+  shrinks : length l.self.rest.now ≤ length l.fn.self.rest.now;
+  reads : (k : List BodyStatement → State) → run l.fn.self.rest.now (FirstInner l.index k) ≡ run l.self.rest.now (FirstInner l.index k);
+}
+
+abbrev pub decreases-loop-self : goal.decreases-loop-self
+decreases-loop-self l = length l.self.rest.now

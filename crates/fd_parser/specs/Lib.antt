@@ -1,0 +1,4 @@
+pub mod Reads
+pub mod Begun
+pub mod Depth
+pub mod Answer
