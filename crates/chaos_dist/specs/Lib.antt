@@ -1,0 +1,8 @@
+pub mod Counting
+pub mod Layout
+pub mod Rounds
+pub mod LayoutLaws
+pub mod Owners
+pub mod OwnersLaws
+pub mod Homes
+pub mod Buckets

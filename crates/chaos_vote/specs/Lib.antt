@@ -1,0 +1,3 @@
+pub mod Votes
+pub mod VoteLaws
+pub mod LeastLaws
