@@ -1,0 +1,4 @@
+pub mod Words
+pub mod Programs
+pub mod Scenes
+pub mod Witness
