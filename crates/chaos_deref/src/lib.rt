@@ -1,0 +1,15 @@
+//! Places of elements by asking the nodes that keep their pages: each node is asked for the elements of
+//! its page in order, and the answers are put together in the order of asking.
+#![tactic(auto)]
+
+mod answers;
+mod asks;
+mod joined;
+mod laws;
+#[cfg(test)]
+mod tests;
+
+pub use answers::answer;
+pub use asks::split_asks;
+pub use joined::join_answers;
+pub use laws::asking_laws;

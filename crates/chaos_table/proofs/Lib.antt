@@ -1,0 +1,4 @@
+pub mod Noted
+pub mod Placed
+pub mod Telling
+pub mod OfLayout
