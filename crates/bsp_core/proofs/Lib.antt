@@ -1,0 +1,15 @@
+pub mod Places
+pub mod Dues
+pub mod Sums
+pub mod Ends
+pub mod Scene
+pub mod Starts
+pub mod Prefix
+pub mod Items
+pub mod Turning
+pub mod EndsWorld
+pub mod Playing
+pub mod Everyone
+pub mod Moving
+pub mod Runs
+pub mod Whole

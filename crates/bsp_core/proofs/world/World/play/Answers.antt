@@ -1,0 +1,21 @@
+use Rattle.std.proofs.Common.{ℕ, List, take, slice_index, arith, sym, ◌∙◌, subst}
+use Rattle.bsp_core.specs.Turns.{Plays}
+use Rattle.bsp_core.proofs.Playing.{plays_grow, plays_last, turn_by, take_next}
+use Rattle.bsp_core.proofs.world.World.play.Goals as goal
+
+pub loop-node-preserved : goal.loop-node-preserved
+loop-node-preserved g c =
+    let i = c.loop-node.invariant in
+    let p : ℕ = slice_index c.args.turns.now c.loop-node.node-index in (
+      c.in-Ok.ensures.nodes ∙ i.0,
+      λ plan is h. c.in-Ok.ensures.at plan is (i.1 plan is h),
+      subst (λ (z : List ℕ). Plays g.N.Phased.view z c.args.self.now c.moved_by.new.self) (sym (take_next g.N.Phased.view c.args.turns.now c.loop-node.node-index c.loop-node-test.true))
+          (plays_last g.N.Phased.view (take c.loop-node.node-index c.args.turns.now) p c.args.self.now c.loop-node.self c.moved_by.new.self i.2
+          (turn_by g.N.Phased.view c.in-Ok.field-0 p c.loop-node.self c.moved_by.new.self c.in-Ok.ensures.moves c.in-Ok.ensures.same c.in-Ok.ensures.still)),
+    )
+
+pub overflow_sub-result : goal.overflow_sub-result
+overflow_sub-result g c = omega (arith, c.moves-before.ensures, c.moves.ensures, plays_grow g.N.Phased.view _ c.args.self.now c.loop-node.self c.loop-node.invariant.2)
+
+pub returns-clause-count : goal.returns-clause-count
+returns-clause-count g c = omega (arith, c.moves-before.ensures, c.moves.ensures, plays_grow g.N.Phased.view _ c.args.self.now c.loop-node.self c.loop-node.invariant.2)

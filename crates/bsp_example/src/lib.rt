@@ -1,0 +1,16 @@
+//! A small node that goes through phases, and a World of such nodes.
+//!
+//! Each node has a flag. In the first phase all tell all others their flag, so that all know whether
+//! one of them is set. If so, in the second phase all tell all, and in a third all tell node 0. If none
+//! is set, in the second phase all tell node 0, and there is no third.
+#![tactic(auto)]
+
+mod phase;
+mod reading;
+mod runs;
+#[cfg(test)]
+mod tests;
+mod voter;
+
+pub use runs::{finished, voters};
+pub use voter::Voter;
