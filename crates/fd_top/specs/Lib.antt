@@ -1,0 +1,9 @@
+pub mod FirstForm
+pub mod Reads
+pub mod Words
+pub mod Meaning
+pub mod Texts
+pub mod Outcomes
+pub mod Answers
+pub mod Nodes
+pub mod Planned

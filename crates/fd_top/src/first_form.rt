@@ -1,0 +1,41 @@
+use sqlite_items::Items;
+
+/// The right side of a group's statement: `C*I`, or `A(I+C)`.
+#[derive(Clone, Copy, Debug, PartialEq, Eq)]
+pub enum Change {
+    Scaled(u16),
+    Shifted(u16),
+}
+
+/// A FORALL with its one statement.
+#[derive(Clone, Copy, Debug, PartialEq, Eq)]
+pub struct Group {
+    pub low: u16,
+    pub high: u16,
+    pub change: Change,
+}
+
+/// The FORALLs of a source in order.
+pub type Groups = Items<Group>;
+
+/// A source of the first form: one array, which is written at the end, and its FORALLs.
+#[derive(Debug, Drop)]
+pub struct FirstProgram {
+    pub letter: u8,
+    pub extent: u16,
+    pub groups: Groups,
+}
+
+/// A subscript outside its array, and the iteration that has it.
+#[derive(Clone, Copy, Debug, PartialEq, Eq)]
+pub struct Outside {
+    pub iteration: u32,
+    pub subscript: u32,
+}
+
+/// A refused FORALL: its line, and its least offence.
+#[derive(Clone, Copy, Debug, PartialEq, Eq)]
+pub struct Refusal {
+    pub line: u32,
+    pub offence: Outside,
+}
