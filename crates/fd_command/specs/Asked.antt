@@ -1,0 +1,79 @@
+-- What the words of a command line ask for.
+use Rattle.std.specs.Prelude.{ℕ, ◌+◌, ◌-◌, ◌*◌, ◌^◌, ◌==◌, ◌&&◌, Bool, false, not, List, [], ◌∷◌, Option, Some, None, if◌then◌else◌, codes, fold, nat_le, option_and_then}
+use Rattle.std.specs.List.{list_all}
+use Rattle.std.specs.Char.{is_ascii_digit}
+use Rattle.fd_command.specs.Options.{Text, source_name}
+use Rattle.fd_command.specs.Uses.{Use, uses_of, value_of, has, no_repeats}
+
+-- where the program comes from
+pub data AskedOrigin : Type 0 where
+  file : Text → AskedOrigin
+  mesh : ℕ → ℕ → AskedOrigin
+
+pub record Asked : Type 0 where
+  pub origin : AskedOrigin
+  pub nodes : ℕ
+  pub plain : Bool
+
+-- decimal digits without needless zeros
+abbrev pub is_canonical : Text → Bool
+is_canonical [] = false
+is_canonical (d ∷ []) = is_ascii_digit d
+is_canonical (d ∷ e ∷ rest) = not (d == 48) && list_all is_ascii_digit (d ∷ e ∷ rest)
+
+abbrev pub number_of : Text → ℕ
+number_of digits = fold (λ n c. n * 10 + (c - 48)) 0 digits
+
+-- the number from `low` to `high` that a text writes
+abbrev pub number_in : ℕ → ℕ → Text → Option ℕ
+number_in low high text =
+    if is_canonical text && (nat_le low (number_of text) && nat_le (number_of text) high)
+    then Some (number_of text) else None
+
+-- a source isn't empty and doesn't begin with a dash
+abbrev pub is_source : Text → Bool
+is_source [] = false
+is_source (c ∷ rest) = not (c == 45)
+
+abbrev pub file_of : Text → Option AskedOrigin
+file_of source = if is_source source then Some (file source) else None
+
+abbrev pub mesh_of : Option ℕ → Option ℕ → Option AskedOrigin
+mesh_of (Some seed) (Some size) = Some (mesh seed size)
+mesh_of (Some seed) None = None
+mesh_of None size = None
+
+-- by the source, the mesh and the size: a source and neither of the two, or both and no source
+abbrev pub origin_of : Option Text → Option Text → Option Text → Option AskedOrigin
+origin_of (Some source) None None = file_of source
+origin_of (Some source) (Some seed) size = None
+origin_of (Some source) None (Some size) = None
+origin_of None (Some seed) (Some size) = mesh_of (number_in 0 (2 ^ 32 - 1) seed) (number_in 8 100000 size)
+origin_of None (Some seed) None = None
+origin_of None None size = None
+
+-- the number of nodes, 1 to 16, and 4 where none is given
+abbrev pub nodes_of : Option Text → Option ℕ
+nodes_of None = Some 4
+nodes_of (Some text) = number_in 1 16 text
+
+abbrev pub both : Option AskedOrigin → Option ℕ → Bool → Option Asked
+both (Some origin) (Some nodes) plain = Some (record { origin = origin; nodes = nodes; plain = plain })
+both (Some origin) None plain = None
+both None nodes plain = None
+
+-- what the values of source, mesh, size and nodes ask for, and whether `--plain` stands
+abbrev pub asked_with : Option Text → Option Text → Option Text → Option Text → Bool → Option Asked
+asked_with source seed size nodes plain = both (origin_of source seed size) (nodes_of nodes) plain
+
+-- what uses ask for, where no name is used twice
+abbrev pub asked_once : List Use → Option Asked
+asked_once uses =
+    if no_repeats uses
+    then asked_with (value_of source_name uses) (value_of (codes "mesh") uses) (value_of (codes "size") uses)
+    (value_of (codes "nodes") uses) (has (codes "plain") uses)
+    else None
+
+-- what words ask for, and none exactly where they aren't taken
+abbrev pub asked : List Text → Option Asked
+asked words = option_and_then asked_once (uses_of None words)

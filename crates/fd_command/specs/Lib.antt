@@ -1,0 +1,5 @@
+pub mod Options
+pub mod Uses
+pub mod Asked
+pub mod ClapCommand
+pub mod Shown

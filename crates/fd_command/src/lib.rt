@@ -1,0 +1,13 @@
+//! The words behind the program's name: what they ask for, and which are not taken.
+//!
+//! `clap` reads the words. What it takes and the program doesn't is refused here, and the contract of
+//! `requested` is the plain reading of the words from left to right.
+#![tactic(auto)]
+
+mod command;
+mod number;
+mod request;
+#[cfg(test)]
+mod tests;
+
+pub use request::{Origin, Refused, Request, requested};

@@ -1,0 +1,172 @@
+ghost use Rattle.std.specs.Prelude.{◌≡◌, ◌≤◌, IfOk, IfSome, Bool, Err, None, Some, codes, map, option_map, string_bytes};
+ghost use Rattle.std.specs.List.{list_all};
+ghost use Rattle.clap.specs.Words.{found_of, first_of, one_of, rows_of};
+ghost use Rattle.fd_command.specs.Options.{source_name};
+ghost use Rattle.fd_command.specs.Asked.{asked, asked_with, is_source, file_of, nodes_of, origin_of};
+ghost use Rattle.fd_command.specs.ClapCommand.{flag_text, is_clear};
+ghost use Rattle.fd_command.specs.Shown.{HasMeshInRange, shown, shown_origin};
+
+use crate::command::parsed;
+use crate::number::number;
+use clap::ArgMatches;
+use std::alloc::Global;
+
+/// Where the program comes from.
+#[derive(Clone, Copy, Debug, PartialEq, Eq)]
+pub enum Origin<'a> {
+    /// The file of this name.
+    File(&'a str),
+    /// The mesh of `size` points that is made from a seed.
+    Mesh { seed: u32, size: u32 },
+}
+
+/// What the words ask for.
+#[derive(Clone, Copy, Debug, PartialEq, Eq)]
+pub struct Request<'a> {
+    pub origin: Origin<'a>,
+    /// On how many nodes the program runs, 1 to 16.
+    pub nodes: u32,
+    /// Whether it runs plainly, without nodes.
+    pub plain: bool,
+}
+
+/// Why there is no request.
+#[derive(Clone, Copy, Debug, PartialEq, Eq)]
+pub enum Refused {
+    /// The words aren't taken.
+    NotTaken,
+    /// Memory is wanting.
+    Memory,
+}
+
+/// Whether a word names a source: it isn't empty and doesn't begin with a dash.
+fn is_source(word: &str) -> bool
+    ensures { result ≡ is_source word.now }
+{
+    match word.as_bytes() {
+        [] => false,
+        [first, ..] => *first != b'-',
+    }
+}
+
+/// Whether clap is handed a word: it isn't `--`, and doesn't begin with one dash.
+fn is_clear(word: &str) -> bool
+    ensures { result ≡ is_clear word.now }
+{
+    match word.as_bytes() {
+        [b'-', b'-', _, ..] => true,
+        [b'-', ..] => false,
+        _ => true,
+    }
+}
+
+/// Whether clap is handed all words.
+fn are_clear(words: &[String]) -> bool
+    ensures { result ≡ list_all is_clear (map string_bytes words.now) }
+{
+    let mut rest = words;
+    while let Some((first, after)) = rest.split_first() {
+        if !is_clear(first.as_str()) {
+            return false;
+        }
+        rest = after;
+    }
+    true
+}
+
+/// The number of nodes, and 4 where none is given.
+fn nodes_of(given: Option<&str>) -> Option<u32>
+    ensures { result ≡ nodes_of (option_map (λ s. s.now) given.entry) }
+{
+    match given {
+        None => Some(4),
+        Some(text) => number(1, 16, text),
+    }
+}
+
+/// The source's file.
+fn file_of<'a>(source: &'a str) -> Option<Origin<'a>>
+    ensures { option_map shown_origin result ≡ file_of source.entry.now }
+{
+    if is_source(source) {
+        Some(Origin::File(source))
+    } else {
+        None
+    }
+}
+
+/// The mesh of a seed and a size.
+fn mesh_of<'a>(seed: &str, size: &str) -> Option<Origin<'a>>
+    ensures origin { option_map shown_origin result ≡ origin_of None (Some seed.now) (Some size.now) }
+    ensures range { IfSome result HasMeshInRange }
+{
+    let seed = number(0, u32::MAX, seed)?;
+    let size = number(8, 100_000, size)?;
+    Some(Origin::Mesh { seed, size })
+}
+
+/// Where the program comes from: a source and neither mesh nor size, or both and no source.
+fn origin_of<'a>(
+    source: Option<&'a str>,
+    seed: Option<&'a str>,
+    size: Option<&'a str>,
+) -> Option<Origin<'a>>
+    ensures origin { option_map shown_origin result
+        ≡ origin_of (option_map (λ s. s.now) source.entry) (option_map (λ s. s.now) seed.entry) (option_map (λ s. s.now) size.entry) }
+    ensures range { IfSome result HasMeshInRange }
+{
+    match (source, seed, size) {
+        (Some(source), None, None) => file_of(source),
+        (None, Some(seed), Some(size)) => mesh_of(seed, size),
+        _ => None,
+    }
+}
+
+/// What clap's matches ask for.
+fn read<'a>(matches: &ArgMatches<'a>) -> Option<Request<'a>>
+    ensures asked { (b : Bool) → one_of (codes "plain") (rows_of (found_of matches.now)) ≡ Some (flag_text b)
+        → option_map shown result ≡ asked_with (first_of source_name (rows_of (found_of matches.now)))
+        (first_of (codes "mesh") (rows_of (found_of matches.now))) (first_of (codes "size") (rows_of (found_of matches.now)))
+        (first_of (codes "nodes") (rows_of (found_of matches.now))) b }
+    ensures some_nodes { IfSome result (λ r. 1 ≤ r.nodes) }
+    ensures few_nodes { IfSome result (λ r. r.nodes ≤ 16) }
+    ensures range { IfSome result (λ r. HasMeshInRange r.origin) }
+{
+    let Some(nodes) = nodes_of(matches.get_str("nodes")) else {
+        return None;
+    };
+    let source = matches.get_str("source");
+    let Some(origin) = origin_of(source, matches.get_str("mesh"), matches.get_str("size")) else {
+        return None;
+    };
+    let plain = matches.get_flag("plain");
+    Some(Request {
+        origin,
+        nodes,
+        plain,
+    })
+}
+
+/// What the words ask for: SOURCE, or `--mesh` with `--size`, and `--nodes` and `--plain`.
+///
+/// An option stands at most once. `--nodes`, `--mesh` and `--size` take the next word as their value, or
+/// carry it after `=`.
+pub fn requested<'a>(alloc: Global, words: &'a [String]) -> Result<Request<'a>, Refused>
+    ensures taken { IfOk result (λ request. asked (map string_bytes words.entry.now) ≡ Some (shown request)) }
+    ensures refused { result ≡ Err Refused.NotTaken → asked (map string_bytes words.entry.now) ≡ None }
+    ensures some_nodes { IfOk result (λ request. 1 ≤ request.nodes) }
+    ensures few_nodes { IfOk result (λ request. request.nodes ≤ 16) }
+    ensures range { IfOk result (λ request. HasMeshInRange request.origin) }
+{
+    if !are_clear(words) {
+        return Err(Refused::NotTaken);
+    }
+    let matches = match parsed(alloc, words) {
+        Ok(matches) => matches,
+        Err(refused) => return Err(refused),
+    };
+    match read(&matches) {
+        None => Err(Refused::NotTaken),
+        Some(request) => Ok(request),
+    }
+}

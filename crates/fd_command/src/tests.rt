@@ -1,0 +1,68 @@
+use crate::{Origin, Refused, Request, requested};
+use std::alloc::{AllocError, Global};
+use std::process::Abort;
+use std::test::Fail;
+
+fn words_of(alloc: Global, texts: &[&str]) -> Result<Vec<String>, AllocError> {
+    let mut words = Vec::new(alloc);
+    for text in texts {
+        words.push(String::from_str(alloc, text)?)?;
+    }
+    Ok(words)
+}
+
+fn asks(
+    rt: &impl Abort,
+    alloc: Global,
+    texts: &[&str],
+    want: Result<Request<'_>, Refused>,
+) -> Result<(), Fail> {
+    let words = words_of(alloc, texts)?;
+    assert_eq!(rt; requested(alloc, words.as_slice()), want);
+    Ok(())
+}
+
+fn file<'a>(nodes: u32, plain: bool) -> Result<Request<'a>, Refused> {
+    Ok(Request {
+        origin: Origin::File("b.fd"),
+        nodes,
+        plain,
+    })
+}
+
+fn mesh<'a>(seed: u32, size: u32) -> Result<Request<'a>, Refused> {
+    Ok(Request {
+        origin: Origin::Mesh { seed, size },
+        nodes: 4,
+        plain: false,
+    })
+}
+
+#[test]
+fn words_on_memory(rt: HostRuntime) -> Result<(), Fail> {
+    let alloc = rt.alloc();
+    let not_taken = Err(Refused::NotTaken);
+    asks(&rt, alloc, &["b.fd"], file(4, false))?;
+    asks(&rt, alloc, &["--nodes", "2", "b.fd"], file(2, false))?;
+    asks(
+        &rt,
+        alloc,
+        &["b.fd", "--nodes=16", "--plain"],
+        file(16, true),
+    )?;
+    asks(
+        &rt,
+        alloc,
+        &["--mesh", "4294967295", "--size=100000"],
+        mesh(u32::MAX, 100_000),
+    )?;
+    asks(&rt, alloc, &["b.fd", "--nodes", "17"], not_taken)?;
+    asks(&rt, alloc, &["--", "b.fd"], not_taken)?;
+    asks(
+        &rt,
+        alloc,
+        &["b.fd", "--mesh", "0", "--size", "8"],
+        not_taken,
+    )?;
+    asks(&rt, alloc, &["b.fd", "--report"], not_taken)
+}
