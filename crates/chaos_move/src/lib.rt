@@ -1,0 +1,19 @@
+//! Values that move between nodes: packed into letters by the items of a schedule, and put in place
+//! from letters.
+#![tactic(auto)]
+
+mod apply;
+mod incoming;
+mod laws;
+mod operators;
+mod outgoing;
+mod place;
+mod rows;
+#[cfg(test)]
+mod tests;
+
+pub use apply::apply_combined;
+pub use incoming::unpack;
+pub use laws::move_laws;
+pub use operators::Operators;
+pub use outgoing::{pack, pack_combined};

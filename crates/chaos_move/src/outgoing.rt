@@ -1,0 +1,51 @@
+ghost use Rattle.std.specs.Prelude.{◌≡◌, ◌<◌, ◌^◌, ◌++◌, All, OnOk, IfOk};
+ghost use Rattle.chaos_move.specs.Moves.{triple, packed, packed_combined};
+
+use crate::place::value_of;
+use chaos_sched::{Item, Items};
+use fd_words::{Memory, NumberLists, Numbers};
+use std::alloc::Global;
+
+/// The numbers of a Gather letter: of each item array, element and value, the value from its local
+/// address in this node's pieces.
+pub fn pack(alloc: Global, items: &Items, pieces: &NumberLists) -> Result<Numbers, Memory>
+    requires { All (λ i. i.element < 2 ^ 63) items.now }
+    ensures { IfOk result (λ numbers. numbers ≡ packed pieces.now items.now) }
+{
+    let mut numbers = Numbers::new(alloc);
+    let all = items.as_slice();
+    for item in all {
+        add(
+            &mut numbers,
+            *item,
+            value_of(pieces, item.array, item.local),
+        )?;
+    }
+    Ok(numbers)
+}
+
+/// The numbers of a Scatter letter: of each item array, element and value, the value from its slot in
+/// what this node has to give.
+pub fn pack_combined(alloc: Global, items: &Items, pending: &NumberLists) -> Result<Numbers, Memory>
+    requires { All (λ i. i.element < 2 ^ 63) items.now }
+    ensures { IfOk result (λ numbers. numbers ≡ packed_combined pending.now items.now) }
+{
+    let mut numbers = Numbers::new(alloc);
+    let all = items.as_slice();
+    for item in all {
+        add(
+            &mut numbers,
+            *item,
+            value_of(pending, item.array, u64::from(item.slot)),
+        )?;
+    }
+    Ok(numbers)
+}
+
+fn add(numbers: &mut Numbers, item: Item, value: i64) -> Result<(), Memory>
+    requires { item.element < 2 ^ 63 }
+    ensures { OnOk result (numbers.new ≡ numbers.old ++ triple item value) }
+{
+    let row = [i64::from(item.array), item.element as i64, value];
+    numbers.append(row.as_slice())
+}

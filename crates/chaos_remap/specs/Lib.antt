@@ -1,0 +1,4 @@
+pub mod Remapping
+pub mod Rows
+pub mod Remapped
+pub mod Composition

@@ -1,0 +1,4 @@
+pub mod Agreement
+pub mod Each
+pub mod Rows
+pub mod Small

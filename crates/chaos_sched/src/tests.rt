@@ -1,0 +1,140 @@
+ghost use Rattle.std.specs.Prelude.{◌<◌, ◌^◌, All, IfOk};
+
+use crate::*;
+use fd_words::{NumberLists, Numbers, Place, Role};
+use std::alloc::Global;
+use std::process::Abort;
+use std::test::Fail;
+
+fn need(role: Role, array: u32, element: u64, owner: u32, local: u64) -> Need {
+    Need {
+        role,
+        array,
+        element,
+        place: Place { owner, local },
+        slot: 7,
+    }
+}
+
+const LIMIT: u64 = 1 << 63;
+
+fn needs(rt: &impl Abort, alloc: Global, list: &[Need]) -> Result<Needs, Fail>
+    ensures elements { IfOk result (λ needs. All (λ n. n.element < 2 ^ 63) needs) }
+    ensures locals { IfOk result (λ needs. All (λ n. n.place.local < 2 ^ 63) needs) }
+{
+    assert!(rt; list.iter().all(|need| need.element < LIMIT));
+    assert!(rt; list.iter().all(|need| need.place.local < LIMIT));
+    Ok(Needs::from_vec(Vec::from_slice(alloc, list)?))
+}
+
+fn asked_of(
+    rt: &impl Abort,
+    alloc: Global,
+    need: Need,
+    nodes: u32,
+    row: [i64; 4],
+) -> Result<(), Fail> {
+    let needs = needs(rt, alloc, [need].as_slice())?;
+    let asks = asks_of(alloc, &needs, nodes)?;
+    assert_eq!(rt; asks.len(), u64::from(nodes));
+    assert!(rt;
+        asks.get(u64::from(need.place.owner))
+            .is_some_and(|list| list.as_slice() == row.as_slice())
+    );
+    Ok(())
+}
+
+#[test]
+fn asks_of_small_programs(rt: HostRuntime) -> Result<(), Fail> {
+    let alloc = rt.alloc();
+    // Y(IA(I)) summed over X(I): node 0 reads X(4) of two blocks of 2
+    asked_of(&rt, alloc, need(Role::Read, 0, 4, 1, 1), 2, [0, 0, 4, 1])?;
+    // the least of Y(I+1) and Z(I): node 0 writes Y(2) of two blocks of 1
+    asked_of(&rt, alloc, need(Role::Target, 0, 2, 1, 0), 2, [1, 0, 2, 0])?;
+    // Y(I) = X(I+1) with owners 3 3 0 2: node 3 reads X(3), and node 0 reads X(4)
+    asked_of(&rt, alloc, need(Role::Read, 0, 3, 0, 0), 4, [0, 0, 3, 0])?;
+    asked_of(&rt, alloc, need(Role::Read, 0, 4, 2, 0), 4, [0, 0, 4, 0])?;
+    // the same in two blocks of 2: node 0 reads X(3)
+    asked_of(&rt, alloc, need(Role::Read, 0, 3, 1, 0), 2, [0, 0, 3, 0])?;
+    schedule_laws();
+    Ok(())
+}
+
+#[test]
+fn asks_ascend_without_repeats(rt: HostRuntime) -> Result<(), Fail> {
+    let alloc = rt.alloc();
+    let list = [
+        need(Role::Read, 1, 1, 0, 0),
+        need(Role::Target, 0, 1, 0, 0),
+        need(Role::Read, 0, 3, 0, 2),
+        need(Role::Read, 0, 2, 0, 1),
+        need(Role::Read, 0, 3, 0, 2),
+    ];
+    let needs = needs(&rt, alloc, list.as_slice())?;
+    let asks = asks_of(alloc, &needs, 2)?;
+    assert!(rt;
+        asks.get(0).is_some_and(|list| {
+            list.as_slice() == [0, 0, 2, 1, 0, 0, 3, 2, 0, 1, 1, 0, 1, 0, 1, 0].as_slice()
+        })
+    );
+    assert!(rt; asks.get(1).is_some_and(|list| list.is_empty()));
+    Ok(())
+}
+
+fn has(lists: &ItemLists, node: usize, item: Item) -> bool {
+    lists
+        .get(node)
+        .is_some_and(|list| list.as_slice() == [item].as_slice())
+}
+
+// node 1 reads X(2) of node 0 and gives it Y(1), node 0 gives Y(3) to node 1; the rows that begin with
+// 2, name element 0, a negative array or no local address are passed over
+#[test]
+fn schedule_of_needs_and_asks(rt: HostRuntime) -> Result<(), Fail> {
+    let alloc = rt.alloc();
+    let needs = needs(&rt, alloc, [need(Role::Target, 1, 3, 1, 0)].as_slice())?;
+    let rows = [
+        0, 0, 2, 1, 2, 0, 1, 0, 0, 0, 0, 0, 1, -1, 1, 0, 1, 1, 1, 0, 0, 0, 1,
+    ];
+    let mut asks = NumberLists::empty(alloc, 2)?;
+    asks.put(
+        1,
+        Numbers::from_vec(Vec::from_slice(alloc, rows.as_slice())?),
+    );
+
+    let schedule = from_asks(alloc, &needs, &asks, 2)?.copy(alloc)?;
+    let read = Item {
+        array: 0,
+        element: 2,
+        local: 1,
+        slot: 0,
+    };
+    let taken = Item {
+        array: 1,
+        element: 1,
+        local: 0,
+        slot: 0,
+    };
+    let given = Item {
+        array: 1,
+        element: 3,
+        local: 0,
+        slot: 7,
+    };
+    assert!(rt; has(&schedule.gather_send, 1, read));
+    assert!(rt;
+        schedule
+            .gather_fetch
+            .get(1)
+            .is_some_and(|list| list.is_empty())
+    );
+    assert!(rt; has(&schedule.scatter_send, 1, given));
+    assert!(rt; has(&schedule.scatter_take, 1, taken));
+    assert!(rt;
+        schedule
+            .gather_send
+            .get(0)
+            .is_some_and(|list| list.is_empty())
+    );
+    Ok(())
+}
