@@ -1,0 +1,4 @@
+pub mod Seats
+pub mod Drives
+pub mod Rounds
+pub mod Alls

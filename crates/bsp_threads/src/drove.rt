@@ -1,0 +1,30 @@
+ghost use Rattle.std.specs.Prelude.{◌≡◌};
+ghost use Rattle.bsp_threads.specs.Drives.{fault_of};
+
+use bsp_core::TakeFault;
+use chaos_letter::{Letter, Wanted};
+
+/// How a drive ended that met no fault: the node is done, or waits for a letter.
+#[derive(Clone, Copy, Debug, PartialEq, Eq)]
+pub enum Drove {
+    Finished,
+    Waiting,
+}
+
+/// Why a drive stopped: a letter that was taken isn't as wanted, or memory is wanting.
+#[derive(Debug, Drop)]
+pub enum DriveFault {
+    Stray { wanted: Wanted, got: Letter },
+    Memory,
+}
+
+impl DriveFault {
+    /// The fault of a drive whose letter wasn't taken.
+    pub(crate) fn of(fault: TakeFault) -> DriveFault
+        ensures { result ≡ fault_of fault }
+    {
+        match fault {
+            TakeFault::Stray { wanted, got } => DriveFault::Stray { wanted, got },
+        }
+    }
+}
