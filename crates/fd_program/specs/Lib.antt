@@ -12,6 +12,7 @@ pub mod Homes
 pub mod Past
 pub mod Layouts
 pub mod Reports
+pub mod Terms
 pub mod Checks
 pub mod LoopLaws
 pub mod ListLaws

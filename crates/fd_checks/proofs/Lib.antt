@@ -1,0 +1,12 @@
+mod Accepted
+mod Bodies
+mod Checked
+mod Distributes
+mod Heads
+mod References
+mod Scopes
+mod Shapes
+mod Sites
+mod Tables
+mod Terms
+mod Walked

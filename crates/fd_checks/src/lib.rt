@@ -1,0 +1,11 @@
+//! A program with its names resolved, and its references and stamps numbered, or its first fault.
+#![tactic(auto)]
+
+mod answer;
+mod statements;
+#[cfg(test)]
+mod tests;
+mod walk;
+
+pub use answer::check;
+pub use walk::{Open, OpenList, Walk};

@@ -1,0 +1,3 @@
+mod Least
+pub mod Trees
+pub mod Walking

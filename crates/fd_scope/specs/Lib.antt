@@ -1,0 +1,5 @@
+pub mod Faults
+pub mod Names
+pub mod Scalars
+pub mod Scope
+pub mod Heads

@@ -1,0 +1,4 @@
+pub mod Sizes
+pub mod Outcomes
+pub mod Events
+pub mod Way

@@ -1,0 +1,12 @@
+//! The trace of a checked program, or the first limit that the way through it passes.
+#![tactic(auto)]
+
+mod budget;
+mod scalars;
+mod subscripts;
+#[cfg(test)]
+mod tests;
+mod turns;
+mod way;
+
+pub use way::unroll;
