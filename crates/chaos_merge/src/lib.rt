@@ -1,0 +1,8 @@
+//! What a node asks of the others: the elements of a stamped table for each owner.
+#![tactic(auto)]
+
+mod owners;
+#[cfg(test)]
+mod tests;
+
+pub use owners::{beyond, merged};
