@@ -1,9 +1,12 @@
 -- Asking all pages, and putting the answers together.
-use Rattle.std.specs.Prelude.{◌≡◌, ℕ, ◌≤◌, ◌<◌, ℤ, List, map, All}
+use Rattle.std.specs.Prelude.{◌≡◌, ℕ, ◌≤◌, ◌<◌, ℤ, List, length, map, unsigned_abs, All}
 use Rattle.chaos_dist.specs.Counting.{below}
+use Rattle.chaos_dist.specs.Owners.{owner_in, local_in}
 use Rattle.fd_words.specs.Lists.{list_at}
 use Rattle.fd_words.specs.declared.place.Place.{Place}
 use Rattle.chaos_table.specs.declared.pages.Pages.{Pages}
+use Rattle.chaos_table.specs.Pages.{owners_on, counts_of, page_given}
+use Rattle.chaos_table.specs.Laws.{IsCovered}
 use Rattle.chaos_deref.specs.Asking.{IsElement, page_for, asks_for, place_named, answers_to, joined}
 
 -- a place that a list of numbers can hold
@@ -19,3 +22,24 @@ abbrev pub AskingGivesPlaces : Type 0
 AskingGivesPlaces = (extent nodes : ℕ) (pages : ℕ → Pages) (wanted : List ℤ) → All (λ v. page_for extent nodes v < nodes) wanted
     → All (λ v. IsSent (place_named (pages (page_for extent nodes v)) v)) wanted
     → joined extent nodes wanted (all_answers extent nodes pages wanted) ≡ map (λ v. place_named (pages (page_for extent nodes v)) v) wanted
+
+-- ---- all pages of a layout
+
+-- the place of element g under a layout
+abbrev pub place_in : List ℕ → ℕ → Place
+place_in owners g = record { owner = owner_in owners g; local = local_in owners g }
+
+-- a layout spread over its pages: the pairs of each page cover it once, and the counts are those of the pages
+pub record IsSpread (nodes : ℕ) (owners : List ℕ) (pairs : ℕ → List (List ℤ)) (counts : List (List ℤ)) : Type 0 where
+  pub some : 1 ≤ nodes
+  pub few : nodes ≤ 4294967296
+  pub short : length owners ≤ 4294967296
+  pub covered : (page : ℕ) → page < nodes → IsCovered nodes page owners (pairs page)
+  pub counted : (page : ℕ) → page < nodes → list_at counts page ≡ counts_of nodes (owners_on (length owners) nodes page (pairs page))
+
+-- then asking gives each wanted element's place under the layout
+abbrev pub AskingGivesLayout : Type 0
+AskingGivesLayout = (nodes : ℕ) (owners : List ℕ) (pairs : ℕ → List (List ℤ)) (counts : List (List ℤ)) (wanted : List ℤ) → IsSpread nodes owners pairs counts
+    → All (IsElement (length owners)) wanted
+    → joined (length owners) nodes wanted (all_answers (length owners) nodes (λ page. page_given (length owners) nodes page (pairs page) counts) wanted)
+    ≡ map (λ v. place_in owners (unsigned_abs v)) wanted

@@ -1,7 +1,9 @@
-ghost use Rattle.chaos_deref.specs.Laws.{AskingGivesPlaces};
+ghost use Rattle.chaos_deref.specs.Laws.{AskingGivesPlaces, AskingGivesLayout};
 
 /// The asks split, answered by each page and joined give the place of each wanted element on its page, in
-/// the order of asking.
+/// the order of asking. Where the pairs of every page cover it once and the counts are those of the pages,
+/// they give its place under the whole layout.
 pub fn asking_laws()
-    ensures { AskingGivesPlaces }
+    ensures places { AskingGivesPlaces }
+    ensures layout { AskingGivesLayout }
 {}
