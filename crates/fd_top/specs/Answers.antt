@@ -1,54 +1,62 @@
 -- How a call may end.
-use Rattle.std.specs.Prelude.{ℕ, ◌≡◌, ◌⊎◌, List, Option, Some, None, IfSome, IsSomeAnd}
+use Rattle.std.specs.Prelude.{ℕ, ℤ, ◌≡◌, ◌⊎◌, Bool, true, false, List, Option, Some, Ok}
 use Rattle.fd_outside.specs.Causes.{Rose, appended, WrittenInPart}
-use Rattle.fd_top.specs.Words.{Asked}
-use Rattle.fd_top.specs.Outcomes.{Outcome, unread_line}
-
--- in this call a read of the source that the words name failed
-abbrev pub SourceFailed : Option Asked → (List ℕ → ℕ) → (List ℕ → ℕ) → Type 0
-SourceFailed words before now = IsSomeAnd words (λ w. Rose (before w.source) (now w.source))
-
--- the line for a source that wasn't read
-abbrev pub IsUnreadLine : Option Asked → List ℕ → Type 0
-IsUnreadLine words line = IsSomeAnd words (λ w. line ≡ unread_line w.source)
-
--- what was to be written: what is planned, or that the source wasn't read
-abbrev pub IsToWrite : Option Asked → Option Outcome → (List ℕ → ℕ) → (List ℕ → ℕ) → List ℕ → Type 0
-IsToWrite words plan before now bytes = IfSome plan (λ o. bytes ≡ o.bytes) ⊎ (SourceFailed words before now × IsUnreadLine words bytes)
-
--- some bytes that were to be written were written in part
-abbrev pub IsCutShort : Option Asked → Option Outcome → (List ℕ → ℕ) → (List ℕ → ℕ) → Option (List ℕ) → Option (List ℕ) → Type 0
-IsCutShort words plan before now old new = (bytes : List ℕ) × (IsToWrite words plan before now bytes × WrittenInPart old new bytes)
-
--- the line for a source that wasn't read was written
-abbrev pub IsUnread : Option Asked → (List ℕ → ℕ) → (List ℕ → ℕ) → Option (List ℕ) → Option (List ℕ) → Type 0
-IsUnread words before now old new = SourceFailed words before now × ((line : List ℕ) × (IsUnreadLine words line × (new ≡ appended old line)))
-
--- the status is the planned one, and the planned bytes were written
-abbrev pub IsPlanned : Option Outcome → ℕ → Option (List ℕ) → Option (List ℕ) → Type 0
-IsPlanned plan status old new = IfSome plan (λ o. (status ≡ o.status) × (new ≡ appended old o.bytes))
-
--- the statuses that a plan can have: one for words that aren't taken, three for a source
-abbrev pub IsPlanStatus : Option Asked → ℕ → Type 0
-IsPlanStatus None status = status ≡ 2
-IsPlanStatus (Some words) status = (status ≡ 0) ⊎ (status ≡ 3) ⊎ (status ≡ 65)
-
--- the planned answer, or want of memory with nothing written
-abbrev pub IsComplete : Option Asked → Option Outcome → ℕ → Option (List ℕ) → Option (List ℕ) → Type 0
-IsComplete words plan status old new = (IsPlanStatus words status × IsPlanned plan status old new) ⊎ ((status ≡ 70) × (new ≡ old))
-
--- every answer and its cause: the planned one; want of memory; a read of the source failed in this call, and
--- its line was written; the sink failed in this call, and what was to be written was written in part
-abbrev pub IsAnswer : Option Asked → Option Outcome → (List ℕ → ℕ) → (List ℕ → ℕ) → ℕ → ℕ → ℕ → Option (List ℕ) → Option (List ℕ) → Type 0
-IsAnswer words plan before now failures failures_now status old new =
-    IsComplete words plan status old new
-    ⊎ (((status ≡ 69) × IsUnread words before now old new) ⊎ ((status ≡ 74) × (Rose failures failures_now × IsCutShort words plan before now old new)))
+use Rattle.fd_program.specs.Stores.{array_at}
+use Rattle.fd_program.specs.Runs.{run_of}
+use Rattle.fd_program.specs.Texts.{text_of}
+use Rattle.fd_command.specs.Asked.{Asked, asked, file}
+use Rattle.fd_front.specs.Sources.{IsSource}
+use Rattle.fd_front.specs.declared.source.Source.{Source}
+use Rattle.fd_load.specs.Files.{file_of}
+use Rattle.fd_load.specs.Loads.{IsReached, IsLoaded}
+use Rattle.fd_first.specs.Stages.{first_form}
+use Rattle.fd_first.specs.Meaning.{end_of}
+use Rattle.fd_first.specs.Texts.{text_of as first_text}
+use Rattle.fd_first.specs.declared.first_form.FirstProgram.{FirstProgram}
+use Rattle.fd_top.specs.Outcomes.{Told, Counts, IsText, data_told, data_counts, ToCome, status_of_first, status_of_run}
 
 -- the bytes were written whole, or the sink failed in this call and a proper prefix of them was
 abbrev pub Ends : ℕ → List ℕ → ℕ → ℕ → ℕ → Option (List ℕ) → Option (List ℕ) → Type 0
 Ends status bytes result before now old new =
     ((result ≡ status) × (new ≡ appended old bytes)) ⊎ ((result ≡ 74) × (Rose before now × WrittenInPart old new bytes))
 
--- what comes of a program: the planned answer, one that the sink cut short, or want of memory
-abbrev pub EndsAs : Outcome → ℕ → ℕ → ℕ → Option (List ℕ) → Option (List ℕ) → Type 0
-EndsAs plan result before now old new = Ends plan.status plan.bytes result before now old new ⊎ ((result ≡ 70) × (new ≡ old))
+-- one of these statuses and its bytes came to an end, or memory was wanting and nothing was written
+abbrev pub EndsBy : (ℕ → List ℕ → Type 0) → ℕ → ℕ → ℕ → Option (List ℕ) → Option (List ℕ) → Type 0
+EndsBy Comes result before now old new =
+    ((status : ℕ) × ((bytes : List ℕ) × (Comes status bytes × Ends status bytes result before now old new))) ⊎ ((result ≡ 70) × (new ≡ old))
+
+-- every answer and its cause
+abbrev pub IsAnswer : List (List ℕ) → Told → Counts → Counts → ℕ → ℕ → ℕ → Option (List ℕ) → Option (List ℕ) → Type 0
+IsAnswer words contents before now failures failures_now result old new = EndsBy (ToCome words contents before now) result failures failures_now old new
+
+-- the names of the files that a call may read: that of the source, and those of the arrays that it reads
+pub data Names (words : List (List ℕ)) (contents : Told) : List ℕ → Type 0 where
+  the_source : (w : Asked) → asked words ≡ Some w → (name : List ℕ) → w.origin ≡ file name → Names words contents name
+  an_array : (w : Asked) → asked words ≡ Some w → (text : List ℕ) → IsText contents w.origin text → (s : Source) → IsSource text s
+      → (array : ℕ) → IsReached (data_told w.origin contents) s.checked array → Names words contents (file_of (array_at s.checked.arrays array))
+
+-- no read of these files failed in this call
+abbrev pub NoneFailed : List (List ℕ) → Told → Counts → Counts → Type 0
+NoneFailed words contents before now = (name : List ℕ) → Names words contents name → Rose (before name) (now name) → ⊥
+
+-- what comes, whole, and no failed read; or want of memory with nothing written
+abbrev pub IsComplete : List (List ℕ) → Told → Counts → Counts → ℕ → Option (List ℕ) → Option (List ℕ) → Type 0
+IsComplete words contents before now result old new =
+    ((bytes : List ℕ) × (ToCome words contents before now result bytes × ((result ≡ 69 → ⊥) × (new ≡ appended old bytes)))) ⊎ ((result ≡ 70) × (new ≡ old))
+
+-- what a run of a source wrote: the status says whether the sequential run is refused, and the bytes are its text
+pub data Wrote (contents : Told) (before now : Counts) (s : Source) (result : ℕ) (old new : Option (List ℕ)) : Bool → Type 0 where
+  plain_text : (store : List (List ℤ)) → IsLoaded contents before now s.checked (Ok store) → result ≡ status_of_run (run_of s.checked store).refused
+      → new ≡ appended old (text_of s.checked store) → Wrote contents before now s result old new true
+  first_text_of : (p : FirstProgram) → first_form s.tokens.tokens ≡ Some p → result ≡ status_of_first (end_of p).refused
+      → new ≡ appended old (first_text p) → Wrote contents before now s result old new false
+
+-- the source that the words ask for was run right
+pub record RanRight (words : List (List ℕ)) (contents : Told) (before now : Counts) (result : ℕ) (old new : Option (List ℕ)) : Type 0 where
+  pub request : Asked
+  pub taken : asked words ≡ Some request
+  pub text : List ℕ
+  pub held : IsText contents request.origin text
+  pub source : Source
+  pub read : IsSource text source
+  pub wrote : Wrote (data_told request.origin contents) (data_counts request.origin before) (data_counts request.origin now) source result old new request.plain

@@ -1,9 +1,4 @@
-pub mod FirstForm
-pub mod Reads
-pub mod Words
-pub mod Meaning
-pub mod Texts
+pub mod Made
 pub mod Outcomes
+pub mod Stops
 pub mod Answers
-pub mod Nodes
-pub mod Planned

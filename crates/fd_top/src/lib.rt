@@ -1,14 +1,12 @@
 //! All that the programs do, from the words of the command line to the status.
 #![tactic(auto)]
 
-mod first_form;
-mod node;
-mod reader;
-mod run;
+mod end;
+mod made;
+mod planned;
 #[cfg(test)]
 mod tests;
-mod text;
 mod top;
-mod words;
 
+pub use fd_first::not_built;
 pub use top::play_program;

@@ -1,0 +1,6 @@
+pub mod Lines
+pub mod Stages
+pub mod Stops
+pub mod Meaning
+pub mod Texts
+pub mod Nodes

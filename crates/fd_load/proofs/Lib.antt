@@ -1,0 +1,3 @@
+pub mod Pieces
+pub mod Loading
+pub mod Names

@@ -1,0 +1,57 @@
+ghost use Rattle.std.specs.Prelude.{◌≡◌, ◌+◌, ◌≤◌, length, min, drop, Some, IfOk, IfSome};
+ghost use Rattle.fd_outside.specs.Causes.{GivesFrom, HasCause, NoneFell};
+ghost use Rattle.fd_top.specs.Made.{made_content, told_by};
+
+use fd_mesh::{FileData, FileList};
+use fd_outside::{Failed, Files};
+
+/// Files that were made and stand in memory. A name that isn't theirs is that of an empty file, so no read fails.
+#[derive(Drop)]
+pub(crate) struct MadeFiles {
+    pub(crate) files: FileList,
+}
+
+/// The bytes of the file with this name, none where there is no such file.
+fn content_of<'a>(files: &'a [FileData], name: &str) -> &'a [u8]
+    ensures { result.now ≡ made_content files.now name.now }
+{
+    let mut rest = files;
+    while let [file, behind @ ..] = rest {
+        if file.name.as_slice() == name.as_bytes() {
+            return file.content.as_slice();
+        }
+        rest = behind;
+    }
+    &[]
+}
+
+/// Copies bytes from a place on into the first places of a buffer, as many as there are and fit.
+fn copy_from(held: &[u8], at: u64, into: &mut [u8]) -> usize
+    ensures count { result ≡ min (length into.old) (length (drop at held.now)) }
+    ensures gives { GivesFrom held.now at result into.new }
+{
+    let start = (at as usize).min(held.len());
+    let left = &held[start..];
+    let count = left.len().min(into.len());
+    into[..count].copy_from_slice(&left[..count]);
+    count
+}
+
+impl Files for MadeFiles {
+    ghost contents = { λ made. told_by made.files };
+
+    ghost faults = { λ made name. 0 };
+
+    ghost reads = { λ made. 0 };
+
+    fn read_at(&mut self, name: &str, at: u64, into: &mut [u8]) -> Result<usize, Failed>
+        ensures most { IfOk result (λ n. n ≤ length into.old) }
+        ensures bytes { IfOk result (λ n. IfSome (told_by self.old.files name.now) (λ held. GivesFrom held at n into.new)) }
+        ensures same { told_by self.new.files ≡ told_by self.old.files }
+        ensures cause { HasCause 0 0 result }
+        ensures later { NoneFell (λ other. 0) (λ other. 0) }
+        ensures counted { 0 ≤ 0 + 1 }
+    {
+        Ok(copy_from(content_of(self.files.as_slice(), name), at, into))
+    }
+}
