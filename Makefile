@@ -1,8 +1,16 @@
-.PHONY: demo test
+.PHONY: demo examples bench test
 
 # proves and builds chaosplay, and runs the first example on two nodes
 demo:
 	cd crates/chaosplay && rt run -- ../../examples/first.fd --nodes 2
+
+# runs each example in its folder and compares what it writes
+examples: demo
+	examples/run.sh
+
+# makes large inputs, runs the proved program on them and prints seconds and peak memory
+bench: demo
+	bench/run.sh
 
 # what the gate does
 test:

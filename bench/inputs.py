@@ -1,0 +1,50 @@
+"""Makes the large inputs of the benchmark in the folder that is named."""
+import sys
+from pathlib import Path
+
+folder = Path(sys.argv[1])
+folder.mkdir(parents=True, exist_ok=True)
+
+
+def write(name, text):
+    (folder / name).write_text(text)
+
+
+# a source of nearly 1 MiB of comments and statements that is run, and one that stops at its last line
+statement = "REDUCE(ADD, Y(IA(I)), X(I)*3 - X(I))\n"
+loop = "FORALL I = 1, 4\n" + statement * 15 + "END FORALL\n"
+head = "PROGRAM LONG\nINTEGER*8 X(4), Y(4), IA(4)\nREAD X, IA\nOUTPUT Y\n"
+body = loop * 100
+comment = "! " + "irregular " * 7 + "\n"
+fill = comment * ((1_048_000 - len(head) - len(body) - 4) // len(comment))
+write("long.fd", head + body + fill + "END\n")
+write("stops.fd", head + body + fill + "END END\n")
+write("x.csv", "1\n2\n3\n4\n")
+write("ia.csv", "2\n2\n4\n1\n")
+
+# a data file of nearly 32 MiB: as many records as the largest array has, in wide fields
+count = 1_048_576
+write("large.fd", f"PROGRAM LARGE\nINTEGER*8 V({count}), S(1)\nREAD V\nOUTPUT S\nFORALL I = 1, {count}\nREDUCE(ADD, S(1), V(I))\nEND FORALL\nEND\n")
+write("v.csv", "".join(f"{i:>30}\n" for i in range(count)))
+
+
+def mesh(points, edges, turns, name):
+    folder_of = folder / name
+    folder_of.mkdir(exist_ok=True)
+    (folder_of / "sweep.fd").write_text(
+        f"PROGRAM SWEEP\nPARAMETER (NP = {points}, NE = {edges})\n"
+        "INTEGER*8 X(NP), F(NP), E1(NE), E2(NE), S(1)\nREAD X, E1, E2\nOUTPUT S\n"
+        f"DO K = 1, {turns}\nFORALL I = 1, NE\n"
+        "REDUCE(ADD, F(E1(I)), X(E2(I)) - X(E1(I)))\nREDUCE(ADD, F(E2(I)), X(E1(I)) - X(E2(I)))\nEND FORALL\n"
+        "FORALL I = 1, NP\nX(I) = X(I) + F(I)\nF(I) = 0\nEND FORALL\nEND DO\n"
+        "FORALL I = 1, NP\nREDUCE(ADD, S(1), X(I))\nEND FORALL\nEND\n"
+    )
+    numbers = lambda f, n: "".join(f"{f(j)}\n" for j in range(1, n + 1))
+    (folder_of / "x.csv").write_text(numbers(lambda j: j, points))
+    (folder_of / "e1.csv").write_text(numbers(lambda j: (j - 1) % points + 1, edges))
+    (folder_of / "e2.csv").write_text(numbers(lambda j: (j * j + 7) % points + 1, edges))
+
+
+for turns in (4, 40):
+    mesh(100_000, 200_000, turns, f"sweep-{turns}")
+    mesh(50_000, 100_000, turns, f"half-{turns}")
