@@ -13,6 +13,8 @@ use Rattle.fd_program.specs.declared.checked.Checked.{Checked}
 use Rattle.fd_program.specs.declared.trace.Step.{Step}
 use Rattle.fd_checks.specs.Walks.{IsAnswer}
 use Rattle.fd_checks.specs.Shapes.{AreShaped}
+use Rattle.fd_checks.specs.Filled.{AreFilled}
+use Rattle.fd_program.specs.Checks.{IsChecked}
 use Rattle.fd_trace.specs.Way.{IsUnrolled}
 use Rattle.fd_front.specs.declared.source.Source.{Source}
 
@@ -22,11 +24,12 @@ pub record IsSpelled (text : List ℕ) (list : TokenList) (program : Program) : 
   pub only : IsTheProgram list.tokens program
   pub shallow : Shallow no_depth list.tokens
 
--- the text is this source: its program has no fault, and its steps pass no limit
+-- the text is this source: its program has no fault and is checked, and its steps pass no limit
 pub record IsSource (text : List ℕ) (s : Source) : Type 0 where
   pub spelled : IsSpelled text s.tokens s.program
   pub checked : IsAnswer s.program (Ok s.checked)
   pub shaped : AreShaped s.checked.sites
+  pub sound : IsChecked s.checked
   pub trace : IsUnrolled s.checked (Ok s.trace)
 
 -- the first fault of a text: of its tokens, or else of their grammar, or else of the program, or else on the way through its steps
@@ -53,6 +56,7 @@ IsParsed text (Err stop.Memory) = Unit {0}
 pub record AreResolved (program : Program) (c : Checked) (steps : List Step) : Type 0 where
   pub checked : IsAnswer program (Ok c)
   pub shaped : AreShaped c.sites
+  pub sound : AreFilled program → IsChecked c
   pub trace : IsUnrolled c (Ok steps)
 
 -- the fault of a program, or on the way through its steps

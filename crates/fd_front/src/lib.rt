@@ -4,6 +4,8 @@
 
 mod line;
 mod source;
+#[cfg(test)]
+mod tests;
 
 pub use line::fault_line;
 pub use source::{Source, read_source};

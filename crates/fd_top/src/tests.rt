@@ -46,6 +46,9 @@ const COUNTS: &str =
 const PRODUCT: &str =
     "PROGRAM PRODUCT\nINTEGER*8 X(4), Y(4), V(7), R(7), C(7)\nREAD X, V, R, C\nOUTPUT Y\nFORALL I = 1, 7\nREDUCE(ADD, Y(R(I)), V(I)*X(C(I)))\nEND FORALL\nEND\n";
 
+const MESH: &str =
+    "PROGRAM MESH\nPARAMETER (NP = 8, NE = 16)\nINTEGER*8 X(NP), F(NP), M(NP), E1(NE), E2(NE)\nDECOMPOSITION P(NP), E(NE)\nALIGN X(I), F(I) WITH P(I)\nALIGN E1(I), E2(I) WITH E(I)\nREAD X, M, E1, E2\nDISTRIBUTE P(M)\nDO K = 1, 4\nFORALL I = 1, NE\nREDUCE(ADD, F(E1(I)), X(E2(I)) - X(E1(I)))\nREDUCE(ADD, F(E2(I)), X(E1(I)) - X(E2(I)))\nEND FORALL\nFORALL I = 1, NP\nX(I) = X(I) + F(I)\nF(I) = 0\nEND FORALL\nPRINT X\nEND DO\nEND\n";
+
 const SWEEP: &str =
     "PROGRAM SWEEP\nPARAMETER (NP = 8, NE = 12)\nINTEGER*8 X(NP), F(NP), M(NP), E1(NE), E2(NE)\nDECOMPOSITION P(NP), E(NE)\nALIGN X(I), F(I) WITH P(I)\nALIGN E1(I), E2(I) WITH E(I)\nREAD X, M, E1, E2\nOUTPUT X\nDISTRIBUTE P(M)\nDO K = 1, 10\nFORALL I = 1, NE\nREDUCE(ADD, F(E1(I)), X(E2(I)) - X(E1(I)))\nREDUCE(ADD, F(E2(I)), X(E1(I)) - X(E2(I)))\nEND FORALL\nFORALL I = 1, NP\nX(I) = X(I) + F(I)\nF(I) = 0\nEND FORALL\nEND DO\nEND\n";
 
@@ -296,6 +299,37 @@ fn examples(rt: HostRuntime) -> Result<(), Fail> {
         None,
         0,
         "Y = 5 6 15 34\n",
+    )
+}
+
+/// The sweeps over the smallest mesh of seed 0, step by step.
+#[test]
+fn mesh_steps(rt: HostRuntime) -> Result<(), Fail> {
+    let alloc = rt.alloc();
+    let mut mesh = MemoryFiles::new(alloc, Numbers::new(alloc));
+    add(alloc, &mut mesh, "a.fd", MESH)?;
+    add(alloc, &mut mesh, "x.csv", "1\n2\n3\n4\n5\n6\n7\n8\n")?;
+    add(alloc, &mut mesh, "m.csv", "7\n14\n21\n28\n35\n42\n49\n56\n")?;
+    add(
+        alloc,
+        &mut mesh,
+        "e1.csv",
+        "1\n2\n3\n4\n5\n6\n7\n8\n1\n2\n3\n4\n5\n6\n7\n8\n",
+    )?;
+    add(
+        alloc,
+        &mut mesh,
+        "e2.csv",
+        "2\n3\n4\n5\n6\n7\n8\n1\n2\n5\n2\n1\n2\n5\n2\n1\n",
+    )?;
+    comes(
+        &rt,
+        alloc,
+        &["a.fd", "--plain"],
+        mesh,
+        None,
+        0,
+        "X = 20 13 2 1 0 5 2 -7\nX = -67 -32 23 20 37 -8 7 56\nX = 336 185 -90 -47 -208 97 2 -239\nX = -1499 -1032 503 132 1349 -608 39 1152\n",
     )
 }
 
