@@ -1,6 +1,7 @@
 //! All that the programs do, from the words of the command line to the status.
 #![tactic(auto)]
 
+mod built;
 mod end;
 mod made;
 mod planned;
@@ -8,5 +9,5 @@ mod planned;
 mod tests;
 mod top;
 
-pub use fd_first::not_built;
+pub use built::not_built;
 pub use top::play_program;

@@ -14,8 +14,9 @@ ghost use Rattle.fd_load.specs.Lines.{data_line, unread_line};
 ghost use Rattle.fd_top.specs.Outcomes.{status_of_first, status_of_run, IsFirst, IsPlain, ComesOf, Comes};
 ghost use Rattle.fd_top.specs.Stops.{IsRefused, IsStopped};
 
+use crate::built::not_built;
 use fd_data::DataFault;
-use fd_first::{FirstProgram, first_program, not_built, run_first};
+use fd_first::{FirstProgram, first_program, run_first};
 use fd_front::{Source, fault_line, read_source};
 use fd_load::{LoadStop, array_at, file_name, load};
 use fd_meaning::run_plain;
@@ -79,12 +80,11 @@ fn first_planned(alloc: Global, source: &Source, nodes: u32) -> Result<Planned, 
     requires few_nodes { nodes ≤ 16 }
     ensures { IfOk result (λ plan. IsFirst source.now plan.status plan.text) }
 {
-    let tokens = source.tokens.tokens.as_slice();
-    if let Some(at) = not_built(tokens, &source.program) {
+    if let Some(at) = not_built(&source.tokens, &source.program) {
         let cause = SourceCause::NotBuilt;
         return refused(alloc, SourceFault { at, cause });
     }
-    match first_program(alloc, tokens)? {
+    match first_program(alloc, source.tokens.tokens.as_slice())? {
         Some(program) => run_planned(alloc, &program, nodes),
         None => unreachable!(),
     }
