@@ -1,0 +1,4 @@
+pub mod Here
+pub mod Joined
+pub mod Ranges
+pub mod Zipped

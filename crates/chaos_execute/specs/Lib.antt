@@ -1,0 +1,5 @@
+pub mod Seats
+pub mod Pending
+pub mod Letters
+pub mod Fits
+pub mod Executed

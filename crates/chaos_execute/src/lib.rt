@@ -1,0 +1,25 @@
+//! The executor: what one loop computes on one node over a kept inspection. It gathers ghosts, runs the
+//! node's iterations over the values before the loop, scatters what belongs to others, and only then
+//! changes the node's own parts.
+#![tactic(auto)]
+
+mod applying;
+mod gather;
+mod iterate;
+mod joining;
+mod pending;
+mod place;
+mod row_lists;
+mod rows;
+mod scatter;
+mod seat;
+mod statements;
+#[cfg(test)]
+mod tests;
+mod values;
+
+pub use applying::apply;
+pub use gather::{gather_in, gather_out};
+pub use iterate::compute;
+pub use pending::PendingValues;
+pub use scatter::scatter_out;

@@ -1,0 +1,63 @@
+ghost use Rattle.std.specs.Prelude.{◌≡◌};
+ghost use Rattle.fd_program.specs.Scalars.{exactly};
+ghost use Rattle.fd_program.specs.Stores.{number_at};
+ghost use Rattle.fd_program.specs.Values.{value_of};
+ghost use Rattle.fd_words.specs.Value.{wrapped};
+ghost use Rattle.chaos_execute.specs.Seats.{read_here};
+
+use crate::seat::{Seat, read};
+use chaos_sched::LocalRef;
+use fd_program::CheckedExpr;
+use fd_syntax::Arith;
+use fd_words::{NumberLists, Numbers, minus, negated, plus, times};
+
+/// The sum, difference or product, modulo 2^64.
+fn combine(op: Arith, a: i64, b: i64) -> i64
+    ensures { result ≡ wrapped (exactly op a b) }
+{
+    match op {
+        Arith::Plus => plus(a, b),
+        Arith::Minus => minus(a, b),
+        Arith::Times => times(a, b),
+    }
+}
+
+fn term(terms: &Numbers, place: u32) -> i64
+    ensures { result ≡ number_at terms.now place }
+{
+    terms.get(u64::from(place)).unwrap_or(0)
+}
+
+/// The value of an expression at iteration `i`; `row` has the references from this iteration on.
+pub fn evaluate(
+    expr: &CheckedExpr,
+    pieces: &NumberLists,
+    ghosts: &NumberLists,
+    terms: &Numbers,
+    seats: &[Seat],
+    i: i64,
+    row: &[LocalRef],
+) -> i64
+    ensures { result ≡ value_of (read_here pieces.now ghosts.now seats.now row.now) terms.now i expr.now }
+{
+    match expr {
+        CheckedExpr::Number(value) => *value,
+        CheckedExpr::Index => i,
+        CheckedExpr::Term(place) => term(terms, *place),
+        CheckedExpr::Read(number) => read(pieces, ghosts, seats, row, *number),
+        CheckedExpr::Negate(inner) => negated(evaluate(
+            inner.get(),
+            pieces,
+            ghosts,
+            terms,
+            seats,
+            i,
+            row,
+        )),
+        CheckedExpr::Binary { op, left, right } => combine(
+            *op,
+            evaluate(left.get(), pieces, ghosts, terms, seats, i, row),
+            evaluate(right.get(), pieces, ghosts, terms, seats, i, row),
+        ),
+    }
+}
