@@ -5,8 +5,6 @@ mod cursor;
 mod laws;
 mod lexer;
 mod piece;
-#[cfg(test)]
-mod tests;
 mod token;
 
 pub use laws::token_laws;

@@ -1,21 +1,15 @@
--- What a function of the parser has read.
+-- What a function of the parser has read, where it isn't all of one phrase.
 use Rattle.std.specs.Prelude.{◌≡◌, ℕ, List, Result, Ok, Err}
-use Rattle.fd_parser.specs.declared.stop.Stop.{Stop}
-use Rattle.fd_parser.specs.declared.stop.Stop.TheVariants.{Wrong, Memory}
+use Rattle.fd_expressions.specs.declared.stop.Stop.{Stop}
+use Rattle.fd_expressions.specs.declared.stop.Stop.TheVariants.{Wrong, Memory}
 use Rattle.fd_lexer.specs.declared.token.Token.{Token}
 use Rattle.fd_syntax.specs.declared.program.Program.{Program}
 use Rattle.fd_syntax.specs.declared.statement.Statement.{Statement}
 use Rattle.fd_syntax.specs.declared.statement.BodyStatement.{BodyStatement}
 use Rattle.fd_grammar.specs.Machine.{State, Closer, EndOfForall, Body, Close, FirstInner, Ended, run, start}
 
--- The old rest is a phrase and the new rest, or the new rest begins with the fault.
--- phrase k is the phrase and then k of its value; rest x k is k of the value x.
-abbrev pub Reads : {X K : Type 0} → (K → State) → (X → K → State) → List Token → List Token → Result X Stop → Type 0
-Reads {X} {K} phrase rest old new (Ok x) = (k : K) → run old (phrase k) ≡ run new (rest x k)
-Reads {X} {K} phrase rest old new (Err Wrong) = (k : K) → run old (phrase k) ≡ Err new
-Reads {X} {K} phrase rest old new (Err Memory) = Unit {0}
-
--- The same for the statements before the end of a program or a DO, behind earlier ones.
+-- The old rest has the statements before the end of a program or a DO, behind earlier ones, and then the new rest, or the new
+-- rest begins with the fault.
 abbrev pub ReadsBody : List Statement → List Token → List Token → Result (List Statement) Stop → Type 0
 ReadsBody before old new (Ok ss) = (c : Closer) (k : List Statement → State) → run old (Body c before k) ≡ run new (Close c (k ss))
 ReadsBody before old new (Err Wrong) = (c : Closer) (k : List Statement → State) → run old (Body c before k) ≡ Err new

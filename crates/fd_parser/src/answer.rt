@@ -2,8 +2,8 @@ ghost use Rattle.std.specs.Prelude.{◌≡◌};
 ghost use Rattle.fd_parser.specs.Answer.{IsAnswer, IsAnyAnswer, answer_to, deep_stop};
 
 use crate::depth::first_too_deep;
-use crate::parser::Parser;
-use crate::stop::Stop;
+use crate::program::program;
+use fd_expressions::{Parser, Stop};
 use fd_lexer::{Token, TokenList};
 use fd_syntax::Program;
 use fd_words::{SourceCause, SourceFault, SourcePlace, SourceStop};
@@ -32,7 +32,7 @@ fn parse_tokens(alloc: Global, tokens: &[Token], end: SourcePlace) -> Result<Pro
 }
 
 /// Why tokens are no program, however deep they may be, or none is given.
-#[derive(Clone, Copy, Debug, PartialEq, Eq)]
+#[derive(Clone, Copy)]
 enum Trouble {
     Memory,
     NoEnd,
@@ -76,7 +76,7 @@ fn parse_any(alloc: Global, tokens: &[Token]) -> Result<Program, Trouble>
         alloc,
         rest: tokens,
     };
-    match parser.program() {
+    match program(&mut parser) {
         Ok(program) => Ok(program),
         Err(Stop::Memory) => Err(Trouble::Memory),
         Err(Stop::Wrong) => match parser.rest {

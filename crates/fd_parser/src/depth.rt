@@ -5,7 +5,7 @@ use fd_grammar::{Sort, sort_of};
 use fd_lexer::Token;
 
 /// Where a token stands in its line.
-#[derive(Clone, Copy, Debug, PartialEq, Eq)]
+#[derive(Clone, Copy)]
 pub enum Spot {
     LineStart,
     BehindEnd,
@@ -14,7 +14,7 @@ pub enum Spot {
 
 /// What is open before a token: the DOs around it, the parentheses of its line, and the signs
 /// `+`, `-` and `*` before it in its line.
-#[derive(Clone, Copy, Debug, PartialEq, Eq)]
+#[derive(Clone, Copy)]
 pub struct Depth {
     pub spot: Spot,
     pub dos: u32,

@@ -4,15 +4,8 @@
 mod answer;
 mod declaration;
 mod depth;
-mod expr;
 mod inner;
-mod parser;
 mod program;
-mod scalar;
 mod statement;
-mod stop;
-mod subscript;
-#[cfg(test)]
-mod tests;
 
 pub use answer::parse;

@@ -1,0 +1,11 @@
+//! The parser of what stands inside a line: names, scalars, subscripts, elements and expressions.
+#![tactic(auto)]
+
+mod expr;
+mod parser;
+mod scalar;
+mod stop;
+mod subscript;
+
+pub use parser::Parser;
+pub use stop::Stop;
