@@ -6,8 +6,6 @@ mod answers;
 mod asks;
 mod joined;
 mod laws;
-#[cfg(test)]
-mod tests;
 
 pub use answers::answer;
 pub use asks::split_asks;

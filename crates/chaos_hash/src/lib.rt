@@ -7,8 +7,6 @@ mod held;
 mod pool;
 mod stamp_table;
 mod table;
-#[cfg(test)]
-mod tests;
 
 pub use held::{Held, HeldList};
 pub use stamp_table::{StampTable, stamps_stay};

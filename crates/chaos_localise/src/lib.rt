@@ -3,8 +3,6 @@
 
 mod entered;
 mod references;
-#[cfg(test)]
-mod tests;
 
 pub use entered::{Entered, EnteredList};
 pub use references::localise;

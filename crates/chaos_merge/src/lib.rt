@@ -2,7 +2,5 @@
 #![tactic(auto)]
 
 mod owners;
-#[cfg(test)]
-mod tests;
 
 pub use owners::{beyond, merged};

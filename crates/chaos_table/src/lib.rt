@@ -9,8 +9,6 @@ mod counts;
 mod laws;
 mod owners;
 mod pages;
-#[cfg(test)]
-mod tests;
 mod width;
 
 pub use counts::page_counts;

@@ -1,4 +1,4 @@
-use crate::*;
+use chaos_hash::*;
 use fd_words::Place;
 use std::process::Abort;
 use std::test::Fail;

@@ -1,4 +1,4 @@
-use crate::*;
+use chaos_table::*;
 use fd_words::{NumberLists, Numbers, Place};
 use std::test::Fail;
 

@@ -1,4 +1,4 @@
-use crate::*;
+use chaos_deref::*;
 use chaos_table::Pages;
 use fd_words::{NumberLists, Numbers, Place, Places};
 use std::alloc::Global;

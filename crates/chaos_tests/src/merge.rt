@@ -1,5 +1,5 @@
-use crate::*;
 use chaos_hash::StampTable;
+use chaos_merge::*;
 use fd_words::{NumberLists, Place};
 use std::alloc::Global;
 use std::process::Abort;

@@ -1,7 +1,7 @@
 ghost use Rattle.std.specs.Prelude.{◌<◌, All, IfOk};
 
-use crate::*;
 use chaos_hash::StampTable;
+use chaos_localise::*;
 use chaos_sched::LocalRef;
 use fd_words::Place;
 use std::alloc::Global;
