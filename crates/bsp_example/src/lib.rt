@@ -8,8 +8,6 @@
 mod phase;
 mod reading;
 mod runs;
-#[cfg(test)]
-mod tests;
 mod voter;
 
 pub use runs::{finished, voters};

@@ -8,8 +8,6 @@ mod mail;
 mod queues;
 mod rule;
 mod seat;
-#[cfg(test)]
-mod tests;
 
 pub use end::End;
 pub use hand::Hand;

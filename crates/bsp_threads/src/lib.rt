@@ -15,8 +15,6 @@ mod round;
 mod seat;
 mod standing;
 mod step;
-#[cfg(test)]
-mod tests;
 
 pub use all::drive_all;
 pub use driving::drive;

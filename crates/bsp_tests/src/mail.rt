@@ -1,7 +1,7 @@
 ghost use Rattle.std.specs.Prelude.{◌<◌, All, length};
 ghost use Rattle.bsp_mail.specs.Seats.{IsOpenOn};
 
-use crate::*;
+use bsp_mail::*;
 use chaos_letter::{Kind, Letter};
 use fd_words::{Memory, Numbers};
 use std::alloc::Global;

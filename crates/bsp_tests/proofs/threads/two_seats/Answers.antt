@@ -2,7 +2,7 @@ use Rattle.std.proofs.Common.{◌≡◌, ◌<◌, length, Some, sym, refl, ap, �
 use Rattle.std.proofs.lemmas.Option.{slice_get_read}
 use Rattle.std.proofs.lemmas.List.{get_or-set_other}
 use Rattle.bsp_mail.specs.declared.seat.MailSeat.{MailSeat}
-use Rattle.bsp_threads.proofs.tests.two_seats.Goals as goal
+use Rattle.bsp_tests.proofs.threads.two_seats.Goals as goal
 
 pub returns-clause-first : goal.returns-clause-first
 returns-clause-first c =

@@ -1,5 +1,5 @@
 use Rattle.bsp_mail.specs.Seats.{IsOpenOn}
-use Rattle.bsp_mail.proofs.tests.send_all.Given as goal
+use Rattle.bsp_tests.proofs.mail.send_all.Given as goal
 
 abbrev pub invariant-loop-n : goal.invariant-loop-n
 invariant-loop-n g l = IsOpenOn l.queues l.seat

@@ -1,8 +1,8 @@
-use crate::*;
 use bsp_core::{
     NodeList, Phased, Played, TakeFault, Turned, Want, driven_law, orders_agree, prefix_law,
     some_can_move, whole_law,
 };
+use bsp_example::*;
 use chaos_letter::{Kind, Letter};
 use fd_words::Numbers;
 use std::test::Fail;

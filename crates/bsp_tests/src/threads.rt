@@ -6,10 +6,10 @@ ghost use Rattle.bsp_example.specs.Rows.{voter_row, voter_holds};
 ghost use Rattle.bsp_threads.specs.declared.seat.Standing.TheVariants.{Going};
 ghost use Rattle.bsp_threads.specs.Seats.{IsReady};
 
-use crate::*;
 use bsp_core::{NodeList, Phased, Want};
 use bsp_example::Voter;
 use bsp_mail::{Mail, MailSeat, Queues};
+use bsp_threads::*;
 use chaos_letter::{Kind, Letter};
 use fd_outside::{Gate, OpenGate};
 use fd_words::{Memory, Numbers};

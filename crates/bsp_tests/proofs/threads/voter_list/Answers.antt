@@ -3,7 +3,7 @@ use Rattle.std.proofs.lemmas.List.{length_push}
 use Rattle.bsp_core.specs.Views.{View}
 use Rattle.bsp_example.specs.Rows.{VoterState}
 use Rattle.bsp_example.specs.Laws.{voters_begin, pushed, count_again}
-use Rattle.bsp_threads.proofs.tests.voter_list.Goals as goal
+use Rattle.bsp_tests.proofs.threads.voter_list.Goals as goal
 
 pub loop-p-preserved : goal.loop-p-preserved
 loop-p-preserved c =
