@@ -3,8 +3,6 @@
 
 mod answer;
 mod statements;
-#[cfg(test)]
-mod tests;
 mod walk;
 
 pub use answer::check;

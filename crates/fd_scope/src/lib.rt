@@ -7,8 +7,6 @@ mod head;
 mod names;
 mod scalars;
 mod scope;
-#[cfg(test)]
-mod tests;
 
 pub use declarations::{array_number, as_extent, note_bad_extent};
 pub use faults::Faults;

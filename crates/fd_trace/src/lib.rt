@@ -4,8 +4,6 @@
 mod budget;
 mod scalars;
 mod subscripts;
-#[cfg(test)]
-mod tests;
 mod turns;
 mod way;
 

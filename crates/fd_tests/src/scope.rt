@@ -1,4 +1,4 @@
-use crate::{Faults, Head, head_facts};
+use fd_scope::{Faults, Head, head_facts};
 use fd_syntax::{Declaration, Listed, Program, Scalar, SizedName, Term};
 use fd_words::{Memory, Name, SourceCause, SourceFault, SourcePlace};
 use sqlite_items::Items;

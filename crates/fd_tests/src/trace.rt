@@ -1,11 +1,11 @@
 ghost use Rattle.std.specs.Prelude.{◌≡◌, [], IfOk};
 ghost use Rattle.fd_program.specs.Terms.{HaveTerms};
 
-use crate::unroll;
 use fd_program::{
     ArrayFacts, Checked, CheckedScalar, CheckedStatement, CheckedStatements, CheckedSubscript,
     OutputName, Reference, Site, Sites, Trace,
 };
+use fd_trace::unroll;
 use fd_words::{Memory, Name, Numbers, Role, SourceCause, SourceFault, SourcePlace, SourceStop};
 use sqlite_items::Items;
 use std::alloc::Global;

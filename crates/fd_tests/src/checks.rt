@@ -1,4 +1,4 @@
-use crate::check;
+use fd_checks::check;
 use fd_program::Checked;
 use fd_syntax::{
     BodyList, BodyStatement, Declaration, Element, Expr, Loop, Program, Scalar, SizedName,
