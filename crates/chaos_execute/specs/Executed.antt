@@ -14,35 +14,15 @@ use Rattle.fd_program.specs.Stores.{element, is_within, place_of, FitsStore}
 use Rattle.fd_program.specs.declared.loop_facts.LoopFacts.{LoopFacts}
 use Rattle.chaos_move.specs.Moves.{packed, packed_combined}
 use Rattle.chaos_sched.specs.declared.prepared.Prepared.{Prepared}
-use Rattle.chaos_execute.specs.Fits.{AreApart, HasRoom, Fits}
+use Rattle.chaos_phases.specs.Fits.{AreApart, HasRoom, Fits}
+use Rattle.chaos_phases.specs.LoopLetters.{sent_in, owed_in}
+use Rattle.chaos_phases.specs.declared.loop_phase.LoopPhase.TheVariants.{Gather, Scatter}
 use Rattle.chaos_execute.specs.Letters.{gathered, after_apply}
 use Rattle.chaos_execute.specs.Pending.{pending_of}
 
--- a row for an element
-abbrev pub row_for : (Cell → ℤ) → Cell → List ℤ
-row_for value x = pos x.array ∷ pos x.element ∷ value x ∷ []
-
-abbrev pub value_before : List (List ℤ) → Cell → ℤ
-value_before store x = element store x.array (pos x.element)
-
-abbrev pub value_written : Option Write → ℤ
-value_written None = pos 0
-value_written (Some w) = w.value
-
--- what a node's own iterations contribute to an element
-abbrev pub value_given : LoopFacts → List (List ℕ) → List (List ℤ) → ℕ → Cell → ℤ
-value_given f owners store p x = value_written (contribution_of f owners store x.array (place_of (pos x.element)) p)
-
--- the numbers of the letters from p to q: what q needs of p, and what p gives q
-abbrev pub gather_letter : LoopFacts → List (List ℕ) → List (List ℤ) → ℕ → ℕ → List ℤ
-gather_letter f owners store p q = flat_map (row_for (value_before store)) (needed_of f owners store q p)
-
-abbrev pub scatter_letter : LoopFacts → List (List ℕ) → List (List ℤ) → ℕ → ℕ → List ℤ
-scatter_letter f owners store p q = flat_map (row_for (value_given f owners store p)) (given_of f owners store p q)
-
 -- the ghosts once the letters of all nodes are gathered
 abbrev pub ghosts_gathered : LoopFacts → List (List ℕ) → List (List ℤ) → ℕ → Prepared → List (List ℤ) → List (List ℤ)
-ghosts_gathered f owners store p kept ghosts = gathered (map (λ q. gather_letter f owners store q p) (below f.nodes)) kept.schedule.gather_fetch ghosts
+ghosts_gathered f owners store p kept ghosts = gathered (owed_in f owners store Gather p) kept.schedule.gather_fetch ghosts
 
 -- each element of an array stands in its decomposition, where one of the nodes owns it
 abbrev pub AreOwned : LoopFacts → List (List ℕ) → Type 0
@@ -65,9 +45,9 @@ pub record IsReady (f : LoopFacts) (owners : List (List ℕ)) (store : List (Lis
 
 -- both kinds of letters are due, and the parts are those of the store after the loop
 pub record IsExecuted (f : LoopFacts) (owners : List (List ℕ)) (store : List (List ℤ)) (p : ℕ) (kept : Prepared) (pieces ghosts : List (List ℤ)) : Type 0 where
-  pub gather : map (packed pieces) kept.schedule.gather_send ≡ map (gather_letter f owners store p) (below f.nodes)
-  pub scatter : map (packed_combined (pending_of f kept pieces ghosts).ghosts) kept.schedule.scatter_send ≡ map (scatter_letter f owners store p) (below f.nodes)
-  pub parts : after_apply kept (pending_of f kept pieces ghosts) (map (λ q. scatter_letter f owners store q p) (below f.nodes)) pieces
+  pub gather : map (packed pieces) kept.schedule.gather_send ≡ sent_in f owners store Gather p
+  pub scatter : map (packed_combined (pending_of f kept pieces ghosts).ghosts) kept.schedule.scatter_send ≡ sent_in f owners store Scatter p
+  pub parts : after_apply kept (pending_of f kept pieces ghosts) (owed_in f owners store Scatter p) pieces
       ≡ parts_of f.arrays owners (after_loop f.arrays f.site f.turn store) p
 
 abbrev pub LoopIsExecuted : Type 0

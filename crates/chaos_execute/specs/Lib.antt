@@ -1,5 +1,4 @@
 pub mod Seats
 pub mod Pending
 pub mod Letters
-pub mod Fits
 pub mod Executed

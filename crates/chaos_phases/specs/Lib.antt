@@ -1,0 +1,2 @@
+pub mod LoopLetters
+pub mod Fits
