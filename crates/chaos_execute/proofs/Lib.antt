@@ -1,4 +1,16 @@
+pub mod Applied
+pub mod Booleans
+pub mod Executing
+pub mod Gathered
+pub mod Given
 pub mod Here
 pub mod Joined
+pub mod Joins
+pub mod Lists
+pub mod Parts
 pub mod Ranges
+pub mod Reading
+pub mod Ready
+pub mod References
+pub mod Standing
 pub mod Zipped

@@ -29,17 +29,16 @@ pub fn compute(
     let body = facts.site.body.as_slice();
     let operators = operators(alloc, seats.as_slice(), arrays, body)?;
     let mut joining = Joining::new(alloc, arrays)?;
-    run(
-        &operators,
+    let iterations = Iterations {
+        operators: &operators,
         pieces,
         ghosts,
-        &facts.turn.terms,
-        seats.as_slice(),
-        width(facts.site.references.as_slice()),
+        terms: &facts.turn.terms,
+        seats: seats.as_slice(),
+        width: width(facts.site.references.as_slice()),
         body,
-        prepared,
-        &mut joining,
-    )?;
+    };
+    iterations.run(prepared, &mut joining)?;
     let here = joining.here.numbers(alloc)?;
     let ghosts = joining.ghosts.by_slots(alloc, arrays, ghosts)?;
     Ok(PendingValues {
@@ -49,28 +48,50 @@ pub fn compute(
     })
 }
 
-fn run(
-    operators: &Operators,
-    pieces: &NumberLists,
-    ghosts: &NumberLists,
-    terms: &Numbers,
-    seats: &[Seat],
+/// What stays the same from iteration to iteration.
+#[derive(Clone, Copy)]
+struct Iterations<'a> {
+    operators: &'a Operators,
+    pieces: &'a NumberLists,
+    ghosts: &'a NumberLists,
+    terms: &'a Numbers,
+    seats: &'a [Seat],
     width: u64,
-    body: &[CheckedBody],
-    prepared: &Prepared,
-    joining: &mut Joining,
-) -> Result<(), Memory>
-    ensures { OnOk result (joining.new ≡ after_iterations operators.now pieces.now ghosts.now terms.now seats.now width body.now prepared.now.iterations prepared.now.references joining.old) }
-{
-    let iterations = prepared.iterations.as_slice();
-    let mut row = prepared.references.as_slice();
-    for i in iterations {
-        run_one(
-            operators, pieces, ghosts, terms, seats, *i, row, body, joining,
-        )?;
-        row = behind(row, width);
+    body: &'a [CheckedBody],
+}
+
+impl Iterations<'_> {
+    fn run(&self, prepared: &Prepared, joining: &mut Joining) -> Result<(), Memory>
+        ensures { OnOk result (joining.new ≡ after_iterations self.now.operators.now self.now.pieces.now self.now.ghosts.now self.now.terms.now self.now.seats.now self.now.width self.now.body.now prepared.now.iterations prepared.now.references joining.old) }
+    {
+        let iterations = prepared.iterations.as_slice();
+        let mut row = prepared.references.as_slice();
+        for i in iterations {
+            self.run_one(*i, row, joining)?;
+            row = behind(row, self.width);
+        }
+        Ok(())
     }
-    Ok(())
+
+    /// The iteration `i`; `row` has the references from this iteration on.
+    fn run_one(&self, i: i64, row: &[LocalRef], joining: &mut Joining) -> Result<(), Memory>
+        ensures { OnOk result (joining.new ≡ fold (after_statement self.now.operators.now self.now.pieces.now self.now.ghosts.now self.now.terms.now self.now.seats.now i row.now) joining.old self.now.body.now) }
+    {
+        for statement in self.body {
+            let to = locate(self.seats, row, target(statement));
+            let value = evaluate(
+                expression(statement),
+                self.pieces,
+                self.ghosts,
+                self.terms,
+                self.seats,
+                i,
+                row,
+            );
+            joining.join(self.operators, self.pieces, self.ghosts, to, value)?;
+        }
+        Ok(())
+    }
 }
 
 /// The references behind so many.
@@ -82,25 +103,4 @@ fn behind(row: &[LocalRef], width: u64) -> &[LocalRef]
     } else {
         &[]
     }
-}
-
-fn run_one(
-    operators: &Operators,
-    pieces: &NumberLists,
-    ghosts: &NumberLists,
-    terms: &Numbers,
-    seats: &[Seat],
-    i: i64,
-    row: &[LocalRef],
-    body: &[CheckedBody],
-    joining: &mut Joining,
-) -> Result<(), Memory>
-    ensures { OnOk result (joining.new ≡ fold (after_statement operators.now pieces.now ghosts.now terms.now seats.now i row.now) joining.old body.now) }
-{
-    for statement in body {
-        let to = locate(seats, row, target(statement));
-        let value = evaluate(expression(statement), pieces, ghosts, terms, seats, i, row);
-        joining.join(operators, pieces, ghosts, to, value)?;
-    }
-    Ok(())
 }

@@ -7,6 +7,7 @@ mod applying;
 mod gather;
 mod iterate;
 mod joining;
+mod laws;
 mod pending;
 mod place;
 mod row_lists;
@@ -14,12 +15,11 @@ mod rows;
 mod scatter;
 mod seat;
 mod statements;
-#[cfg(test)]
-mod tests;
 mod values;
 
 pub use applying::apply;
 pub use gather::{gather_in, gather_out};
 pub use iterate::compute;
+pub use laws::{calls_are_met, loop_is_executed, run_makes_ready};
 pub use pending::PendingValues;
 pub use scatter::scatter_out;
