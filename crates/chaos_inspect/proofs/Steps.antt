@@ -1,0 +1,106 @@
+-- Steps of the loops over iterations, over plain lists.
+use Rattle.std.proofs.Common.{◌≡◌, ℕ, ◌+◌, ◌<◌, ◌≤◌, ℤ, pos, List, [], ◌∷◌, ◌++◌, length, map, filter, drop, take, get_or, refl, ap, sym, ◌∙◌, Some, None, Option, arith, append_assoc, append-nil}
+use Rattle.std.specs.Prelude.{count_by, filter_map}
+use Rattle.std.specs.List.{flat_map}
+use Rattle.std.proofs.lemmas.List.{at_drop_more, map-append}
+use Rattle.std.proofs.lemmas.List.Elements.{filter-append, filter_map-append}
+use Rattle.fd_words.specs.declared.place.Offence.{Offence}
+use Rattle.fd_program.specs.Loops.{first_of, offence_at}
+use Rattle.fd_program.specs.Uses.{gives_index}
+use Rattle.fd_program.specs.declared.loop_facts.LoopFacts.{LoopFacts}
+use Rattle.fd_program.specs.declared.loop_use.Use.{Use}
+use Rattle.chaos_reach.specs.Reached.{uses_with}
+use Rattle.chaos_inspect.specs.Dealing.{appended_at, dealt_onto}
+use Rattle.chaos_inspect.specs.Walking.{Homed, home_told, homed_through, index_uses, piece_value, piece_values, spot_of, uses_through}
+use Rattle.chaos_inspect.specs.declared.spot.Spot.{Spot}
+
+-- the first of two
+abbrev pub either : {A : Type 0} → Option A → Option A → Option A
+either (Some x) other = Some x
+either None other = other
+
+pub first_of-append : {A : Type 0} (xs ys : List A) → first_of (xs ++ ys) ≡ either (first_of xs) (first_of ys)
+first_of-append [] ys = refl
+first_of-append (x ∷ xs) ys = refl
+
+-- one iteration of a walk
+walked : (f : LoopFacts) (is rest more : List ℤ) (k : ℕ) (i : ℤ) (us : List Use) → k < length is → get_or is k (pos 0) ≡ i → us ≡ uses_with f i rest
+    → more ≡ drop (count_by (gives_index f.arrays) us) rest → us ++ uses_through f (drop (k + 1) is) more ≡ uses_through f (drop k is) rest
+walked f is rest more k i us less at used behind =
+    let whole : List Use → List Use = λ vs. vs ++ uses_through f (drop (k + 1) is) (drop (count_by (gives_index f.arrays) vs) rest) in
+    ap (λ vs. us ++ uses_through f (drop (k + 1) is) vs) behind
+    ∙ ap whole (used ∙ ap (λ j. uses_with f j rest) (sym at))
+    ∙ sym (at_drop_more (λ js. uses_through f js rest) is k (pos 0) less)
+
+-- the rest of the offences
+pub votes_step : (f : LoopFacts) (is rest more : List ℤ) (k : ℕ) (i : ℤ) (us : List Use) (all : Option Offence) → k < length is → get_or is k (pos 0) ≡ i
+    → us ≡ uses_with f i rest → first_of (filter_map (offence_at f.arrays) us) ≡ None → more ≡ drop (count_by (gives_index f.arrays) us) rest
+    → first_of (filter_map (offence_at f.arrays) (uses_through f (drop k is) rest)) ≡ all
+    → first_of (filter_map (offence_at f.arrays) (uses_through f (drop (k + 1) is) more)) ≡ all
+votes_step f is rest more k i us all less at used none behind before =
+    let later = uses_through f (drop (k + 1) is) more in
+    let split : first_of (filter_map (offence_at f.arrays) (us ++ later)) ≡ first_of (filter_map (offence_at f.arrays) later) =
+    ap first_of (filter_map-append (offence_at f.arrays) us later) ∙ first_of-append (filter_map (offence_at f.arrays) us) (filter_map (offence_at f.arrays) later)
+    ∙ ap (λ o. either o (first_of (filter_map (offence_at f.arrays) later))) none in
+    sym split
+    ∙ ap (λ us. first_of (filter_map (offence_at f.arrays) us)) (walked f is rest more k i us less at used behind)
+    ∙ before
+
+-- the first of the offences is here
+pub votes_found : (f : LoopFacts) (is rest : List ℤ) (k : ℕ) (i : ℤ) (us : List Use) (o : Offence) (all : Option Offence) → k < length is → get_or is k (pos 0) ≡ i
+    → us ≡ uses_with f i rest → first_of (filter_map (offence_at f.arrays) us) ≡ Some o
+    → first_of (filter_map (offence_at f.arrays) (uses_through f (drop k is) rest)) ≡ all → Some o ≡ all
+votes_found f is rest k i us o all less at used some before =
+    let more = drop (count_by (gives_index f.arrays) us) rest in
+    let later = uses_through f (drop (k + 1) is) more in
+    sym (ap first_of (filter_map-append (offence_at f.arrays) us later) ∙ first_of-append (filter_map (offence_at f.arrays) us) (filter_map (offence_at f.arrays) later)
+    ∙ ap (λ o. either o (first_of (filter_map (offence_at f.arrays) later))) some)
+    ∙ ap (λ us. first_of (filter_map (offence_at f.arrays) us)) (walked f is rest more k i us less at used refl)
+    ∙ before
+
+-- the spots of one iteration more
+pub spots_step : (f : LoopFacts) (is : List ℤ) (k : ℕ) (i : ℤ) (us : List Use) (spots more all : List Spot) → k < length is → get_or is k (pos 0) ≡ i → us ≡ uses_with f i []
+    → more ≡ spots ++ map (spot_of f) (filter (gives_index f.arrays) us)
+    → spots ++ map (spot_of f) (index_uses f (drop k is)) ≡ all → more ++ map (spot_of f) (index_uses f (drop (k + 1) is)) ≡ all
+spots_step f is k i us spots more all less at used noted before =
+    let later = index_uses f (drop (k + 1) is) in
+    let here = filter (gives_index f.arrays) us in
+    ap (λ l. l ++ map (spot_of f) later) noted
+    ∙ append_assoc spots (map (spot_of f) here) (map (spot_of f) later)
+    ∙ ap (λ l. spots ++ l) (sym (map-append (spot_of f) here later)
+    ∙ ap (map (spot_of f)) (sym (filter-append (gives_index f.arrays) us (flat_map (λ j. uses_with f j []) (drop (k + 1) is)))
+    ∙ ap (λ l. filter (gives_index f.arrays) (l ++ flat_map (λ j. uses_with f j []) (drop (k + 1) is))) (used ∙ ap (λ j. uses_with f j []) (sym at))
+    ∙ sym (at_drop_more (index_uses f) is k (pos 0) less)))
+    ∙ before
+
+-- the row of one iteration more
+pub homed_step : (f : LoopFacts) (is rest more : List ℤ) (k : ℕ) (i : ℤ) (us : List Use) (count home : ℕ) (lists further all : List (List ℤ)) → k < length is → get_or is k (pos 0) ≡ i
+    → us ≡ uses_with f i rest → count ≡ count_by (gives_index f.arrays) us → home ≡ home_told f us → further ≡ appended_at lists home (i ∷ take count rest)
+    → more ≡ drop count rest
+    → dealt_onto (λ (h : Homed). h.home) (λ (h : Homed). h.row) lists (homed_through f (drop k is) rest) ≡ all
+    → dealt_onto (λ (h : Homed). h.home) (λ (h : Homed). h.row) further (homed_through f (drop (k + 1) is) more) ≡ all
+homed_step f is rest more k i us count home lists further all less at used counted homed appended behind before =
+    let onto : List (List ℤ) → List Homed → List (List ℤ) = dealt_onto (λ (h : Homed). h.home) (λ (h : Homed). h.row) in
+    let made : ℤ → List Use → List (List ℤ) = λ j vs.
+    onto (appended_at lists (home_told f vs) (j ∷ take (count_by (gives_index f.arrays) vs) rest)) (homed_through f (drop (k + 1) is) (drop (count_by (gives_index f.arrays) vs) rest)) in
+    ap (λ l. onto l (homed_through f (drop (k + 1) is) more)) (appended ∙ ap (λ n. appended_at lists n (i ∷ take count rest)) homed ∙ ap (λ n. appended_at lists (home_told f us) (i ∷ take n rest)) counted)
+    ∙ ap (λ vs. onto (appended_at lists (home_told f us) (i ∷ take (count_by (gives_index f.arrays) us) rest)) (homed_through f (drop (k + 1) is) vs)) (behind ∙ ap (λ n. drop n rest) counted)
+    ∙ ap (made i) used
+    ∙ ap (λ j. made j (uses_with f j rest)) (sym at)
+    ∙ sym (at_drop_more (λ js. onto lists (homed_through f js rest)) is k (pos 0) less)
+    ∙ before
+
+-- two numbers more are a pair
+pub pair_step : (pieces : List (List ℤ)) (asked more values further all : List ℤ) → 2 ≤ length asked → more ≡ drop 2 asked
+    → further ≡ values ++ piece_value pieces (get_or asked 0 (pos 0)) (get_or asked 1 (pos 0)) ∷ []
+    → values ++ piece_values pieces asked ≡ all → further ++ piece_values pieces more ≡ all
+pair_step pieces [] more values further all two behind pushed before = absurd (omega arith)
+pair_step pieces (array ∷ []) more values further all two behind pushed before = absurd (omega arith)
+pair_step pieces (array ∷ local ∷ rest) more values further all two behind pushed before =
+    ap (λ l. l ++ piece_values pieces more) pushed ∙ append_assoc values (piece_value pieces array local ∷ []) (piece_values pieces more)
+    ∙ ap (λ l. values ++ (piece_value pieces array local ∷ piece_values pieces l)) behind ∙ before
+
+pub pair_done : (pieces : List (List ℤ)) (asked values all : List ℤ) → length asked < 2 → values ++ piece_values pieces asked ≡ all → values ≡ all
+pair_done pieces [] values all few before = sym (append-nil values) ∙ before
+pair_done pieces (array ∷ []) values all few before = sym (append-nil values) ∙ before
+pair_done pieces (array ∷ local ∷ rest) values all few before = absurd (omega arith)

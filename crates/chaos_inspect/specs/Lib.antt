@@ -1,0 +1,4 @@
+pub mod Dealing
+pub mod Walking
+pub mod Inspecting
+pub mod PhaseLaws

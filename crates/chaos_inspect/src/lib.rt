@@ -1,0 +1,19 @@
+//! The inspection of a FORALL on one node, phase by phase: the values of index arrays are fetched, the
+//! nodes vote whether a subscript is out of range, iterations go to their homes, and their references are
+//! prepared there.
+#![tactic(auto)]
+
+mod dealing;
+mod homes;
+mod index;
+mod inspection;
+mod laws;
+mod range;
+mod spot;
+mod stage;
+mod votes;
+
+pub use inspection::Inspection;
+pub use laws::phases_follow;
+pub use spot::{Spot, Spots};
+pub use stage::Stage;

@@ -1,0 +1,12 @@
+pub mod Lists
+pub mod Sets
+pub mod OneEntered
+pub mod Reading
+pub mod AllMet
+pub mod InOrder
+pub mod Asked
+pub mod ByFormula
+pub mod Own
+pub mod Whole
+pub mod NoMap
+pub mod Stays

@@ -1,0 +1,5 @@
+pub mod Accepted
+pub mod Reached
+pub mod ReachedLaws
+pub mod Standing
+pub mod PlaceLaws
