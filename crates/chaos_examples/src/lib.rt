@@ -1,0 +1,7 @@
+//! Worked programs on several nodes. Each function's contract is what the definitions of a run compute
+//! for one of them: how many moves it has, and the letters from one node to another.
+#![tactic(auto)]
+
+pub mod letters;
+pub mod moves;
+pub mod plans;
