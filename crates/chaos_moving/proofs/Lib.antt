@@ -1,0 +1,9 @@
+pub mod Lists
+pub mod PairSteps
+pub mod PairLaws
+pub mod PageLaws
+pub mod AskLaws
+pub mod RegularPlaces
+pub mod RemapLetters
+pub mod StageLaws
+pub mod InRunLaws

@@ -1,0 +1,5 @@
+pub mod Pairs
+pub mod Asks
+pub mod Stages
+pub mod IsMoving
+pub mod InRun
