@@ -1,6 +1,7 @@
 //! Plays a program on its nodes, in turns on one thread.
 #![tactic(auto)]
 
+use bsp_core::Played;
 use fd_outside::{HostFiles, HostSink};
 use fd_top::play_program;
 use std::alloc::Global;
@@ -20,5 +21,13 @@ fn main(rt: HostRuntime) -> ExitCode {
     };
     let mut files = HostFiles::new(&rt);
     let mut out = HostSink::new(&rt);
-    ExitCode::from(play_program(rt.alloc(), words.as_slice(), &mut files, &mut out))
+    let mut played = Played::new(rt.alloc());
+    let status = play_program(
+        rt.alloc(),
+        words.as_slice(),
+        &mut files,
+        &mut out,
+        &mut played,
+    );
+    ExitCode::from(status)
 }

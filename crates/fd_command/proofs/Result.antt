@@ -26,7 +26,7 @@ clap_reads words clear = sym (clap_verdict words) ∙ (simulates value_options f
 -- what the rows of clap's matches ask for
 abbrev pub AsksBy : List Text → List Row → Type 0
 AsksBy words rows = (b : Bool) × (one_of (codes "plain") rows ≡ Some (flag_text b))
-    × (asked words ≡ asked_with (first_of source_name rows) (first_of (codes "mesh") rows) (first_of (codes "size") rows) (first_of (codes "nodes") rows) b)
+    × (asked words ≡ asked_with (first_of source_name rows) (first_of (codes "mesh") rows) (first_of (codes "size") rows) (first_of (codes "nodes") rows) (first_of (codes "turns") rows) b)
 
 asks_by_uses : (words : List Text) (us : List Use) → AreGood us → asked words ≡ asked_once us → AsksBy words (fold with_default (rows_by us) (rules_by value_options flags))
 asks_by_uses words us good e = (
@@ -38,6 +38,7 @@ asks_by_uses words us good e = (
     value_read value_options (codes "mesh") us good.fit refl refl,
     value_read value_options (codes "size") us good.fit refl refl,
     value_read value_options (codes "nodes") us good.fit refl refl,
+    value_read value_options (codes "turns") us good.fit refl refl,
   ) refl,
 )
 

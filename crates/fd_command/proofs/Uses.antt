@@ -3,7 +3,8 @@ use Rattle.std.proofs.Common.{◌≡◌, ◌∙◌, ◌&&◌, ◌||◌, ◌++◌
 use Rattle.std.specs.Str.{bytes_eq}
 use Rattle.fd_command.specs.Options.{Text, value_options, source_name}
 use Rattle.fd_command.specs.Uses.{Use, has, no_repeats, value_of}
-use Rattle.fd_command.specs.Asked.{AskedOrigin, asked_once, asked_with, both, is_source, mesh_of, nodes_of, number_in, origin_of}
+use Rattle.fd_command.specs.Asked.{AskedOrigin, asked_once, asked_with, both, is_source, manner_by, manner_of, mesh_of, nodes_of, number_in, origin_of, turns_of}
+use Rattle.fd_command.specs.declared.request.Turns.{Turns}
 use Rattle.fd_command.proofs.Rules.{same_text, self_text}
 use Rattle.fd_command.proofs.Verdict.{IsKnown}
 
@@ -59,9 +60,17 @@ dash_no_source : (value : Text) → is_dashed value ≡ true → is_source value
 dash_no_source [] e = refl
 dash_no_source (c ∷ rest) e = rw e refl
 
-pub no_nodes : (origin : Option AskedOrigin) (plain : Bool) → both origin None plain ≡ None
-no_nodes None plain = refl
-no_nodes (Some origin) plain = refl
+pub no_turns : (nodes : Option ℕ) (plain : Bool) → manner_by nodes None plain ≡ None
+no_turns None plain = refl
+no_turns (Some nodes) plain = refl
+
+pub no_manner : (origin : Option AskedOrigin) → both origin None ≡ None
+no_manner None = refl
+no_manner (Some origin) = refl
+
+no_seeded : (value : Text) (plain : Bool) → number_in 0 (2 ^ 32 - 1) value ≡ None → turns_of (Some value) plain ≡ None
+no_seeded value true e = refl
+no_seeded value false e = rw e refl
 
 no_file : (value : Text) (seed size : Option Text) → is_source value ≡ false → origin_of (Some value) seed size ≡ None
 no_file value None None e = rw e refl
@@ -85,21 +94,39 @@ no_size None (Some seed) value e = rw e (no_mesh (number_in 0 (2 ^ 32 - 1) seed)
 
 -- the names that have a value: each refuses one with a dash before it
 module _ (us : List Use) (value : Text) (dash : is_dashed value ≡ true) where
-  dash_nodes : value_of (codes "nodes") us ≡ Some value → asked_once us ≡ None
-  dash_nodes e = by (no_repeats us)
+  by_manner : manner_of (value_of (codes "nodes") us) (value_of (codes "turns") us) (has (codes "plain") us) ≡ None → asked_once us ≡ None
+  by_manner e = by (no_repeats us)
     where
-      asks : asked_with (value_of source_name us) (value_of (codes "mesh") us) (value_of (codes "size") us) (value_of (codes "nodes") us) (has (codes "plain") us) ≡ None
-      asks = rw (e, dash_no_number 1 16 value dash) (no_nodes _ _)
+      origin : Option AskedOrigin
+      origin = origin_of (value_of source_name us) (value_of (codes "mesh") us) (value_of (codes "size") us)
 
-      by : (b : Bool) → (if b then asked_with (value_of source_name us) (value_of (codes "mesh") us) (value_of (codes "size") us) (value_of (codes "nodes") us) (has (codes "plain") us) else None) ≡ None
-      by true = asks
+      by : (b : Bool) → (if b then asked_with (value_of source_name us) (value_of (codes "mesh") us) (value_of (codes "size") us) (value_of (codes "nodes") us) (value_of (codes "turns") us) (has (codes "plain") us) else None) ≡ None
+      by true = ap (both origin) e ∙ no_manner origin
       by false = refl
+
+  dash_nodes : value_of (codes "nodes") us ≡ Some value → asked_once us ≡ None
+  dash_nodes e = by_manner (ap (λ (n : Option ℕ). manner_by n (turns_of (value_of (codes "turns") us) plain) plain) none)
+    where
+      plain : Bool
+      plain = has (codes "plain") us
+
+      none : nodes_of (value_of (codes "nodes") us) ≡ None
+      none = ap nodes_of e ∙ dash_no_number 1 16 value dash
+
+  dash_turns : value_of (codes "turns") us ≡ Some value → asked_once us ≡ None
+  dash_turns e = by_manner (ap (λ (t : Option Turns). manner_by (nodes_of (value_of (codes "nodes") us)) t plain) none ∙ no_turns (nodes_of (value_of (codes "nodes") us)) plain)
+    where
+      plain : Bool
+      plain = has (codes "plain") us
+
+      none : turns_of (value_of (codes "turns") us) plain ≡ None
+      none = ap (λ (o : Option Text). turns_of o plain) e ∙ no_seeded value plain (dash_no_number 0 (2 ^ 32 - 1) value dash)
 
   by_origin : origin_of (value_of source_name us) (value_of (codes "mesh") us) (value_of (codes "size") us) ≡ None → asked_once us ≡ None
   by_origin e = by (no_repeats us)
     where
-      by : (b : Bool) → (if b then asked_with (value_of source_name us) (value_of (codes "mesh") us) (value_of (codes "size") us) (value_of (codes "nodes") us) (has (codes "plain") us) else None) ≡ None
-      by true = ap (λ (o : Option AskedOrigin). both o (nodes_of (value_of (codes "nodes") us)) (has (codes "plain") us)) e
+      by : (b : Bool) → (if b then asked_with (value_of source_name us) (value_of (codes "mesh") us) (value_of (codes "size") us) (value_of (codes "nodes") us) (value_of (codes "turns") us) (has (codes "plain") us) else None) ≡ None
+      by true = ap (λ (o : Option AskedOrigin). both o (manner_of (value_of (codes "nodes") us) (value_of (codes "turns") us) (has (codes "plain") us))) e
       by false = refl
 
   dash_source : value_of source_name us ≡ Some value → asked_once us ≡ None
@@ -116,16 +143,18 @@ module _ (us : List Use) (value : Text) (dash : is_dashed value ≡ true) where
 
   dash_value : (name : Text) → IsKnown value_options name → value_of name us ≡ Some value → asked_once us ≡ None
   dash_value name (inr e) v = dash_source (ap (λ (n : Text). value_of n us) (sym e) ∙ v)
-  dash_value name (inl known) v = by (bytes_eq (codes "nodes") name) refl (bytes_eq (codes "mesh") name) refl (bytes_eq (codes "size") name) refl
+  dash_value name (inl known) v = by (bytes_eq (codes "nodes") name) refl (bytes_eq (codes "mesh") name) refl (bytes_eq (codes "size") name) refl (bytes_eq (codes "turns") name) refl
     where
       is : (n : Text) → bytes_eq n name ≡ true → value_of n us ≡ Some value
       is n e = ap (λ (x : Text). value_of x us) (same_text n name e) ∙ v
 
-      by : (a : Bool) → bytes_eq (codes "nodes") name ≡ a → (b : Bool) → bytes_eq (codes "mesh") name ≡ b → (d : Bool) → bytes_eq (codes "size") name ≡ d → asked_once us ≡ None
-      by true e b f d g = dash_nodes (is (codes "nodes") e)
-      by false e true f d g = dash_mesh (is (codes "mesh") f)
-      by false e false f true g = dash_size (is (codes "size") g)
-      by false e false f false g = let bad : false ≡ true = rw (e, f, g) at known in cc
+      by : (a : Bool) → bytes_eq (codes "nodes") name ≡ a → (b : Bool) → bytes_eq (codes "mesh") name ≡ b → (d : Bool) → bytes_eq (codes "size") name ≡ d
+          → (t : Bool) → bytes_eq (codes "turns") name ≡ t → asked_once us ≡ None
+      by true e b f d g t h = dash_nodes (is (codes "nodes") e)
+      by false e true f d g t h = dash_mesh (is (codes "mesh") f)
+      by false e false f true g t h = dash_size (is (codes "size") g)
+      by false e false f false g true h = dash_turns (is (codes "turns") h)
+      by false e false f false g false h = let bad : false ≡ true = rw (e, f, g, h) at known in cc
 
 pub dash_asks_none : (us more : List Use) (name value : Text) → IsKnown value_options name → is_dashed value ≡ true → asked_once (us ++ (name, Some value) ∷ more) ≡ None
 dash_asks_none us more name value known dash = by (has name us) refl

@@ -3,15 +3,16 @@ use Rattle.std.proofs.Common.{◌≡◌, ℕ, Bool, true, false, [], ◌∷◌, 
 use Rattle.fd_command.specs.Options.{Text}
 use Rattle.fd_command.specs.Uses.{uses_of}
 use Rattle.fd_command.specs.Asked.{Asked, asked, file, mesh}
+use Rattle.fd_command.specs.declared.request.Turns.TheVariants.{RoundRobin, Seeded}
 
 abbrev b_fd : Text
 b_fd = codes "b.fd"
 
 abbrev a_file : ℕ → Bool → Option Asked
-a_file nodes plain = Some (record { origin = file b_fd; nodes = nodes; plain = plain })
+a_file nodes plain = Some (record { origin = file b_fd; manner = record { nodes = nodes; turns = RoundRobin; plain = plain } })
 
 abbrev a_mesh : ℕ → ℕ → Option Asked
-a_mesh seed size = Some (record { origin = mesh seed size; nodes = 4; plain = false })
+a_mesh seed size = Some (record { origin = mesh seed size; manner = record { nodes = 4; turns = RoundRobin; plain = false } })
 
 source_alone : asked (b_fd ∷ []) ≡ a_file 4 false
 unfolding uses_of
@@ -41,7 +42,19 @@ size_first : asked (codes "--size=9" ∷ codes "--mesh=7" ∷ []) ≡ a_mesh 7 9
 unfolding uses_of
 size_first = refl
 
+seeded_turns : asked (codes "--turns=4294967295" ∷ b_fd ∷ []) ≡ Some (record { origin = file b_fd; manner = record { nodes = 4; turns = Seeded 4294967295; plain = false } })
+unfolding uses_of
+seeded_turns = refl
+
 -- ---- words that aren't taken
+
+turns_of_plain : asked (b_fd ∷ codes "--plain" ∷ codes "--turns" ∷ codes "1" ∷ []) ≡ None
+unfolding uses_of
+turns_of_plain = refl
+
+great_turns : asked (b_fd ∷ codes "--turns" ∷ codes "4294967296" ∷ []) ≡ None
+unfolding uses_of
+great_turns = refl
 
 no_words : asked [] ≡ None
 unfolding uses_of

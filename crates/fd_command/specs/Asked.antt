@@ -1,9 +1,12 @@
 -- What the words of a command line ask for.
-use Rattle.std.specs.Prelude.{ℕ, ◌+◌, ◌-◌, ◌*◌, ◌^◌, ◌==◌, ◌&&◌, Bool, false, not, List, [], ◌∷◌, Option, Some, None, if◌then◌else◌, codes, fold, nat_le, option_and_then}
+use Rattle.std.specs.Prelude.{ℕ, ◌+◌, ◌-◌, ◌*◌, ◌^◌, ◌==◌, ◌&&◌, Bool, true, false, not, List, [], ◌∷◌, Option, Some, None, if◌then◌else◌, codes, fold, nat_le, option_and_then, option_map}
 use Rattle.std.specs.List.{list_all}
 use Rattle.std.specs.Char.{is_ascii_digit}
 use Rattle.fd_command.specs.Options.{Text, source_name}
 use Rattle.fd_command.specs.Uses.{Use, uses_of, value_of, has, no_repeats}
+use Rattle.fd_command.specs.declared.request.Manner.{Manner}
+use Rattle.fd_command.specs.declared.request.Turns.{Turns}
+use Rattle.fd_command.specs.declared.request.Turns.TheVariants.{RoundRobin, Seeded}
 
 -- where the program comes from
 pub data AskedOrigin : Type 0 where
@@ -12,8 +15,7 @@ pub data AskedOrigin : Type 0 where
 
 pub record Asked : Type 0 where
   pub origin : AskedOrigin
-  pub nodes : ℕ
-  pub plain : Bool
+  pub manner : Manner
 
 -- decimal digits without needless zeros
 abbrev pub is_canonical : Text → Bool
@@ -57,21 +59,36 @@ abbrev pub nodes_of : Option Text → Option ℕ
 nodes_of None = Some 4
 nodes_of (Some text) = number_in 1 16 text
 
-abbrev pub both : Option AskedOrigin → Option ℕ → Bool → Option Asked
-both (Some origin) (Some nodes) plain = Some (record { origin = origin; nodes = nodes; plain = plain })
-both (Some origin) None plain = None
-both None nodes plain = None
+-- the order of the nodes' turns: in round robin where no seed is given, and none may be given with `--plain`
+abbrev pub turns_of : Option Text → Bool → Option Turns
+turns_of None plain = Some RoundRobin
+turns_of (Some text) true = None
+turns_of (Some text) false = option_map Seeded (number_in 0 (2 ^ 32 - 1) text)
 
--- what the values of source, mesh, size and nodes ask for, and whether `--plain` stands
-abbrev pub asked_with : Option Text → Option Text → Option Text → Option Text → Bool → Option Asked
-asked_with source seed size nodes plain = both (origin_of source seed size) (nodes_of nodes) plain
+abbrev pub manner_by : Option ℕ → Option Turns → Bool → Option Manner
+manner_by (Some nodes) (Some turns) plain = Some (record { nodes = nodes; turns = turns; plain = plain })
+manner_by (Some nodes) None plain = None
+manner_by None turns plain = None
+
+-- by the nodes and the turns, and whether `--plain` stands
+abbrev pub manner_of : Option Text → Option Text → Bool → Option Manner
+manner_of nodes turns plain = manner_by (nodes_of nodes) (turns_of turns plain) plain
+
+abbrev pub both : Option AskedOrigin → Option Manner → Option Asked
+both (Some origin) (Some manner) = Some (record { origin = origin; manner = manner })
+both (Some origin) None = None
+both None manner = None
+
+-- what the values of source, mesh, size, nodes and turns ask for, and whether `--plain` stands
+abbrev pub asked_with : Option Text → Option Text → Option Text → Option Text → Option Text → Bool → Option Asked
+asked_with source seed size nodes turns plain = both (origin_of source seed size) (manner_of nodes turns plain)
 
 -- what uses ask for, where no name is used twice
 abbrev pub asked_once : List Use → Option Asked
 asked_once uses =
     if no_repeats uses
     then asked_with (value_of source_name uses) (value_of (codes "mesh") uses) (value_of (codes "size") uses)
-    (value_of (codes "nodes") uses) (has (codes "plain") uses)
+    (value_of (codes "nodes") uses) (value_of (codes "turns") uses) (has (codes "plain") uses)
     else None
 
 -- what words ask for, and none exactly where they aren't taken

@@ -6,7 +6,7 @@ Text = List ℕ
 
 -- the options that take the next word as their value, or carry it after `=`
 abbrev pub value_options : List Text
-value_options = codes "nodes" ∷ codes "mesh" ∷ codes "size" ∷ []
+value_options = codes "nodes" ∷ codes "mesh" ∷ codes "size" ∷ codes "turns" ∷ []
 
 -- the options without a value
 abbrev pub flags : List Text

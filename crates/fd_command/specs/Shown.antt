@@ -11,7 +11,7 @@ shown_origin (origin.Mesh seed size) = mesh seed size
 
 -- what a request says
 abbrev pub shown : Request → Asked
-shown request = record { origin = shown_origin request.origin; nodes = request.nodes; plain = request.plain }
+shown request = record { origin = shown_origin request.origin; manner = request.manner }
 
 -- the mesh, where there is one, has a seed of 32 bits and 8 to 100,000 points
 abbrev pub HasMeshInRange : Origin → Type 0

@@ -58,6 +58,7 @@ fn command<'a>(alloc: Global) -> Result<Command<'a>, AllocError>
     let command = with_value(alloc, command, "nodes")?;
     let command = with_value(alloc, command, "mesh")?;
     let command = with_value(alloc, command, "size")?;
+    let command = with_value(alloc, command, "turns")?;
     let command = with_flag(alloc, command, "plain")?;
     with_source(alloc, command)
 }

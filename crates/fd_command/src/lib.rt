@@ -10,4 +10,4 @@ mod request;
 #[cfg(test)]
 mod tests;
 
-pub use request::{Origin, Refused, Request, requested};
+pub use request::{Manner, Origin, Refused, Request, Turns, requested};

@@ -1,8 +1,9 @@
-ghost use Rattle.std.specs.Prelude.{◌≡◌, ◌≤◌, IfOk, IfSome, Bool, Err, None, Some, codes, map, option_map, string_bytes};
+ghost use Rattle.std.specs.Prelude.{◌≡◌, ◌≤◌, ◌-◌, ◌^◌, IfOk, IfSome, Bool, Err, None, Some, codes, map, option_map, string_bytes};
 ghost use Rattle.std.specs.List.{list_all};
 ghost use Rattle.clap.specs.Words.{found_of, first_of, one_of, rows_of};
 ghost use Rattle.fd_command.specs.Options.{source_name};
-ghost use Rattle.fd_command.specs.Asked.{asked, asked_with, is_source, file_of, nodes_of, origin_of};
+ghost use Rattle.fd_command.specs.Asked.{asked, asked_with, is_source, file_of, manner_of, nodes_of, number_in, origin_of, turns_of};
+ghost use Rattle.fd_command.specs.declared.request.Turns.TheVariants as Turns;
 ghost use Rattle.fd_command.specs.ClapCommand.{flag_text, is_clear};
 ghost use Rattle.fd_command.specs.Shown.{HasMeshInRange, shown, shown_origin};
 
@@ -20,14 +21,31 @@ pub enum Origin<'a> {
     Mesh { seed: u32, size: u32 },
 }
 
+/// The order in which the nodes take turns.
+#[derive(Clone, Copy, Debug, PartialEq, Eq)]
+pub enum Turns {
+    /// One after another, from node 0 on, again and again.
+    RoundRobin,
+    /// In the order that a seed gives.
+    Seeded(u32),
+}
+
+/// How the program runs.
+#[derive(Clone, Copy, Debug, PartialEq, Eq)]
+pub struct Manner {
+    /// On how many nodes the program runs, 1 to 16.
+    pub nodes: u32,
+    /// In which order the nodes take turns.
+    pub turns: Turns,
+    /// Whether it runs plainly, without nodes.
+    pub plain: bool,
+}
+
 /// What the words ask for.
 #[derive(Clone, Copy, Debug, PartialEq, Eq)]
 pub struct Request<'a> {
     pub origin: Origin<'a>,
-    /// On how many nodes the program runs, 1 to 16.
-    pub nodes: u32,
-    /// Whether it runs plainly, without nodes.
-    pub plain: bool,
+    pub manner: Manner,
 }
 
 /// Why there is no request.
@@ -84,6 +102,40 @@ fn nodes_of(given: Option<&str>) -> Option<u32>
     }
 }
 
+/// The order of turns: in round robin where no seed is given. A plain run has no turns, so it takes no seed.
+fn turns_of(given: Option<&str>, plain: bool) -> Option<Turns>
+    ensures { result ≡ turns_of (option_map (λ s. s.now) given.entry) plain }
+{
+    match (given, plain) {
+        (None, _) => Some(Turns::RoundRobin),
+        (Some(_), true) => None,
+        (Some(text), false) => seeded(text),
+    }
+}
+
+/// The order that a seed gives.
+fn seeded(text: &str) -> Option<Turns>
+    ensures { result ≡ option_map Turns.Seeded (number_in 0 (2 ^ 32 - 1) text.now) }
+{
+    let seed = number(0, u32::MAX, text)?;
+    Some(Turns::Seeded(seed))
+}
+
+/// How the program runs.
+fn manner_of(nodes: Option<&str>, turns: Option<&str>, plain: bool) -> Option<Manner>
+    ensures manner { result ≡ manner_of (option_map (λ s. s.now) nodes.entry) (option_map (λ s. s.now) turns.entry) plain }
+    ensures some_nodes { IfSome result (λ m. 1 ≤ m.nodes) }
+    ensures few_nodes { IfSome result (λ m. m.nodes ≤ 16) }
+{
+    let nodes = nodes_of(nodes)?;
+    let turns = turns_of(turns, plain)?;
+    Some(Manner {
+        nodes,
+        turns,
+        plain,
+    })
+}
+
 /// The source's file.
 fn file_of<'a>(source: &'a str) -> Option<Origin<'a>>
     ensures { option_map shown_origin result ≡ file_of source.entry.now }
@@ -127,35 +179,32 @@ fn read<'a>(matches: &ArgMatches<'a>) -> Option<Request<'a>>
     ensures asked { (b : Bool) → one_of (codes "plain") (rows_of (found_of matches.now)) ≡ Some (flag_text b)
         → option_map shown result ≡ asked_with (first_of source_name (rows_of (found_of matches.now)))
         (first_of (codes "mesh") (rows_of (found_of matches.now))) (first_of (codes "size") (rows_of (found_of matches.now)))
-        (first_of (codes "nodes") (rows_of (found_of matches.now))) b }
-    ensures some_nodes { IfSome result (λ r. 1 ≤ r.nodes) }
-    ensures few_nodes { IfSome result (λ r. r.nodes ≤ 16) }
+        (first_of (codes "nodes") (rows_of (found_of matches.now))) (first_of (codes "turns") (rows_of (found_of matches.now))) b }
+    ensures some_nodes { IfSome result (λ r. 1 ≤ r.manner.nodes) }
+    ensures few_nodes { IfSome result (λ r. r.manner.nodes ≤ 16) }
     ensures range { IfSome result (λ r. HasMeshInRange r.origin) }
 {
-    let Some(nodes) = nodes_of(matches.get_str("nodes")) else {
-        return None;
-    };
     let source = matches.get_str("source");
     let Some(origin) = origin_of(source, matches.get_str("mesh"), matches.get_str("size")) else {
         return None;
     };
     let plain = matches.get_flag("plain");
-    Some(Request {
-        origin,
-        nodes,
-        plain,
-    })
+    let nodes = matches.get_str("nodes");
+    let Some(manner) = manner_of(nodes, matches.get_str("turns"), plain) else {
+        return None;
+    };
+    Some(Request { origin, manner })
 }
 
-/// What the words ask for: SOURCE, or `--mesh` with `--size`, and `--nodes` and `--plain`.
+/// What the words ask for: SOURCE, or `--mesh` with `--size`, and `--nodes`, `--turns` and `--plain`.
 ///
-/// An option stands at most once. `--nodes`, `--mesh` and `--size` take the next word as their value, or
-/// carry it after `=`.
+/// An option stands at most once. `--nodes`, `--mesh`, `--size` and `--turns` take the next word as their
+/// value, or carry it after `=`.
 pub fn requested<'a>(alloc: Global, words: &'a [String]) -> Result<Request<'a>, Refused>
     ensures taken { IfOk result (λ request. asked (map string_bytes words.entry.now) ≡ Some (shown request)) }
     ensures refused { result ≡ Err Refused.NotTaken → asked (map string_bytes words.entry.now) ≡ None }
-    ensures some_nodes { IfOk result (λ request. 1 ≤ request.nodes) }
-    ensures few_nodes { IfOk result (λ request. request.nodes ≤ 16) }
+    ensures some_nodes { IfOk result (λ request. 1 ≤ request.manner.nodes) }
+    ensures few_nodes { IfOk result (λ request. request.manner.nodes ≤ 16) }
     ensures range { IfOk result (λ request. HasMeshInRange request.origin) }
 {
     if !are_clear(words) {

@@ -1,4 +1,4 @@
-use crate::{Origin, Refused, Request, requested};
+use crate::{Manner, Origin, Refused, Request, Turns, requested};
 use std::alloc::{AllocError, Global};
 use std::process::Abort;
 use std::test::Fail;
@@ -25,16 +25,33 @@ fn asks(
 fn file<'a>(nodes: u32, plain: bool) -> Result<Request<'a>, Refused> {
     Ok(Request {
         origin: Origin::File("b.fd"),
-        nodes,
-        plain,
+        manner: Manner {
+            nodes,
+            turns: Turns::RoundRobin,
+            plain,
+        },
     })
 }
 
 fn mesh<'a>(seed: u32, size: u32) -> Result<Request<'a>, Refused> {
     Ok(Request {
         origin: Origin::Mesh { seed, size },
-        nodes: 4,
-        plain: false,
+        manner: Manner {
+            nodes: 4,
+            turns: Turns::RoundRobin,
+            plain: false,
+        },
+    })
+}
+
+fn seeded<'a>(seed: u32) -> Result<Request<'a>, Refused> {
+    Ok(Request {
+        origin: Origin::File("b.fd"),
+        manner: Manner {
+            nodes: 4,
+            turns: Turns::Seeded(seed),
+            plain: false,
+        },
     })
 }
 
@@ -58,6 +75,8 @@ fn words_on_memory(rt: HostRuntime) -> Result<(), Fail> {
     )?;
     asks(&rt, alloc, &["b.fd", "--nodes", "17"], not_taken)?;
     asks(&rt, alloc, &["--", "b.fd"], not_taken)?;
+    asks(&rt, alloc, &["--turns", "3", "b.fd"], seeded(3))?;
+    asks(&rt, alloc, &["b.fd", "--plain", "--turns=0"], not_taken)?;
     asks(
         &rt,
         alloc,

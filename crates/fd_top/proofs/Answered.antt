@@ -1,26 +1,27 @@
 -- What an answer says.
 use Rattle.std.proofs.Common.{◌≡◌, ℕ, ◌⊎◌, Bool, true, false, List, refl, ap, sym, ◌∙◌, subst, inl, inr, arith}
-use Rattle.std.specs.Prelude.{Option, Some, None}
+use Rattle.std.specs.Prelude.{ℤ, Option, Some, None}
 use Rattle.fd_outside.specs.Causes.{Rose, appended}
 use Rattle.fd_program.specs.Stores.{array_at}
 use Rattle.fd_program.specs.Runs.{run_of}
 use Rattle.fd_program.specs.declared.refused.Refused.{Refused}
 use Rattle.fd_command.specs.Asked.{Asked, AskedOrigin, file, mesh, asked}
+use Rattle.fd_command.specs.declared.request.Manner.{Manner}
 use Rattle.fd_first.specs.Meaning.{end_of}
 use Rattle.fd_first.specs.declared.first_form.Refusal.{Refusal}
 use Rattle.fd_front.specs.Sources.{IsSource}
 use Rattle.fd_front.specs.declared.source.Source.{Source}
 use Rattle.fd_load.specs.Files.{file_of}
-use Rattle.fd_top.specs.Outcomes.{Told, Counts, status_of_first, status_of_run, IsFirst, unbuilt, ran_first, IsPlain, unread_file, faulty_file, ran, ComesOf, Comes, refused, accepted, IsText, SourceFailed, data_told, data_counts, FromOrigin, unread, too_long, source, ToCome, untaken, taken}
-use Rattle.fd_top.specs.Answers.{IsAnswer, the_source, an_array, NoneFailed, IsComplete, Wrote, plain_text, first_text_of, RanRight}
+use Rattle.fd_top.specs.Outcomes.{Reading, Outcome, status_of_first, status_of_run, IsRunOf, RunsPlainly, RunsInTurns, OverData, unread_file, faulty_file, ran, OnNodes, ran_first, unbuilt, ran_turns, ComesOf, Comes, refused, accepted, IsText, SourceFailed, data_read, FromOrigin, unread, too_long, source, ToCome, untaken, taken}
+use Rattle.fd_top.specs.Answers.{Left, Ends, IsWritten, IsAnswer, the_source, an_array, NoneFailed, IsComplete, HasRun, plainly, in_turns, of_first_form, RanRight}
 
-is_first_status : (o : Option Refusal) (n : ℕ) → status_of_first o ≡ n → (n ≡ 0) ⊎ (n ≡ 3)
-is_first_status None n e = inl (sym e)
-is_first_status (Some r) n e = inr (sym e)
+is_first_status : (o : Option Refusal) (n : ℕ) → n ≡ status_of_first o → (n ≡ 0) ⊎ (n ≡ 3)
+is_first_status None n e = inl e
+is_first_status (Some r) n e = inr e
 
-is_run_status : (o : Option Refused) (n : ℕ) → status_of_run o ≡ n → (n ≡ 0) ⊎ (n ≡ 3)
-is_run_status None n e = inl (sym e)
-is_run_status (Some r) n e = inr (sym e)
+is_run_status : (o : Option Refused) (n : ℕ) → n ≡ status_of_run o → (n ≡ 0) ⊎ (n ≡ 3)
+is_run_status None n e = inl e
+is_run_status (Some r) n e = inr e
 
 neither : {X : Type 0} (n : ℕ) → n ≡ 69 → (n ≡ 0) ⊎ (n ≡ 3) → X
 neither n e (inl z) = absurd (omega (arith, e, z))
@@ -28,60 +29,70 @@ neither n e (inr z) = absurd (omega (arith, e, z))
 
 -- ---- 69 comes of a failed read alone
 
-counts_of : (origin : AskedOrigin) (before now : Counts) (name : List ℕ) → Rose (data_counts origin before name) (data_counts origin now name) → Rose (before name) (now name)
-counts_of (file f) before now name rose = rose
-counts_of (mesh seed size) before now name rose = absurd (omega (arith, rose))
+counts_of : (origin : AskedOrigin) (r : Reading) (name : List ℕ) → Rose ((data_read origin r).before name) ((data_read origin r).now name) → Rose (r.before name) (r.now name)
+counts_of (file f) r name rose = rose
+counts_of (mesh seed size) r name rose = absurd (omega (arith, rose))
 
-failed_plain : (words : List (List ℕ)) (contents : Told) (before now : Counts) {s : Source} {status : ℕ} {bytes : List ℕ} (w : Asked) → asked words ≡ Some w
-    → (text : List ℕ) → IsText contents w.origin text → IsSource text s → NoneFailed words contents before now
-    → IsPlain (data_told w.origin contents) (data_counts w.origin before) (data_counts w.origin now) s status bytes → status ≡ 69 → ⊥
-failed_plain words contents before now {s = s} w is text held read none (unread_file array l) e =
-    none (file_of (array_at s.checked.arrays array)) (an_array w is text held s read array l.0) (counts_of w.origin before now (file_of (array_at s.checked.arrays array)) l.1)
-failed_plain words contents before now w is text held read none (faulty_file array fault l) e = absurd (omega (arith, e))
-failed_plain words contents before now {s = s} w is text held read none (ran store l) e =
-    neither (status_of_run (run_of s.checked store).refused) e (is_run_status (run_of s.checked store).refused (status_of_run (run_of s.checked store).refused) refl)
+-- runs have a status of their own
+abbrev pub HaveRunStatus : Source → (List (List ℤ) → Outcome → Type 0) → Type 0
+HaveRunStatus s Runs = (store : List (List ℤ)) (o : Outcome) → Runs store o → IsRunOf s store o
 
-failed_first : {s : Source} {status : ℕ} {bytes : List ℕ} → IsFirst s status bytes → status ≡ 69 → ⊥
-failed_first (unbuilt place stops) e = absurd (omega (arith, e))
-failed_first (ran_first p first) e = neither (status_of_first (end_of p).refused) e (is_first_status (end_of p).refused (status_of_first (end_of p).refused) refl)
+failed_data : (words : List (List ℕ)) (r : Reading) {s : Source} {o : Outcome} (w : Asked) → asked words ≡ Some w
+    → (text : List ℕ) → IsText r.contents w.origin text → IsSource text s → NoneFailed words r → (Runs : List (List ℤ) → Outcome → Type 0) → HaveRunStatus s Runs
+    → OverData (data_read w.origin r) s Runs o → o.status ≡ 69 → ⊥
+failed_data words r {s = s} w is text held read none Runs run (unread_file array l) e =
+    none (file_of (array_at s.checked.arrays array)) (an_array w is text held s read array l.0) (counts_of w.origin r (file_of (array_at s.checked.arrays array)) l.1)
+failed_data words r w is text held read none Runs run (faulty_file array fault l) e = absurd (omega (arith, e))
+failed_data words r {s = s} w is text held read none Runs run (ran store l o runs) e =
+    neither o.status e (is_run_status (run_of s.checked store).refused o.status (run store o runs).status)
 
-failed_of : (words : List (List ℕ)) (contents : Told) (before now : Counts) {s : Source} (status : ℕ) (bytes : List ℕ) (w : Asked) → asked words ≡ Some w
-    → (text : List ℕ) → IsText contents w.origin text → IsSource text s → NoneFailed words contents before now → (plain : Bool)
-    → ComesOf plain (data_told w.origin contents) (data_counts w.origin before) (data_counts w.origin now) s status bytes → status ≡ 69 → ⊥
-failed_of words contents before now status bytes w is text held read none true c e = failed_plain words contents before now w is text held read none c e
-failed_of words contents before now status bytes w is text held read none false c e = failed_first c e
+failed_nodes : (words : List (List ℕ)) (r : Reading) {s : Source} {o : Outcome} (w : Asked) → asked words ≡ Some w
+    → (text : List ℕ) → IsText r.contents w.origin text → IsSource text s → NoneFailed words r → (m : Manner) → OnNodes m (data_read w.origin r) s o → o.status ≡ 69 → ⊥
+failed_nodes words r w is text held read none m (ran_first p first) e =
+    neither (status_of_first (end_of p).refused) e (is_first_status (end_of p).refused (status_of_first (end_of p).refused) refl)
+failed_nodes words r w is text held read none m (unbuilt other place stops) e = absurd (omega (arith, e))
+failed_nodes words r {s = s} w is text held read none m (ran_turns other built o d) e =
+    failed_data words r w is text held read none (RunsInTurns m s) (λ store o t. t.run) d e
 
-failed_comes : (words : List (List ℕ)) (contents : Told) (before now : Counts) {status : ℕ} {bytes : List ℕ} (w : Asked) → asked words ≡ Some w
-    → (text : List ℕ) → IsText contents w.origin text → NoneFailed words contents before now → {plain : Bool}
-    → Comes plain (data_told w.origin contents) (data_counts w.origin before) (data_counts w.origin now) text status bytes → status ≡ 69 → ⊥
-failed_comes words contents before now w is text held none (refused fault at) e = absurd (omega (arith, e))
-failed_comes words contents before now w is text held none {plain = plain} (accepted s read status bytes of) e = failed_of words contents before now status bytes w is text held read none plain of e
+failed_of : (words : List (List ℕ)) (r : Reading) {s : Source} (o : Outcome) (w : Asked) → asked words ≡ Some w
+    → (text : List ℕ) → IsText r.contents w.origin text → IsSource text s → NoneFailed words r → (plain : Bool) (m : Manner)
+    → ComesOf plain m (data_read w.origin r) s o → o.status ≡ 69 → ⊥
+failed_of words r {s = s} o w is text held read none true m c e = failed_data words r w is text held read none (RunsPlainly s) (λ store o t. t.run) c e
+failed_of words r o w is text held read none false m c e = failed_nodes words r w is text held read none m c e
 
-failed_source : (words : List (List ℕ)) (contents : Told) (before now : Counts) (w : Asked) → asked words ≡ Some w → (origin : AskedOrigin) → w.origin ≡ origin
-    → (name : List ℕ) → SourceFailed origin before now name → NoneFailed words contents before now → ⊥
-failed_source words contents before now w is (file f) at name rose none =
-    none name (the_source w is name (at ∙ ap file (sym rose.0))) rose.1
-failed_source words contents before now w is (mesh seed size) at name rose none = absurd rose
+failed_comes : (words : List (List ℕ)) (r : Reading) {o : Outcome} (w : Asked) → asked words ≡ Some w
+    → (text : List ℕ) → IsText r.contents w.origin text → NoneFailed words r → {m : Manner} → Comes m (data_read w.origin r) text o → o.status ≡ 69 → ⊥
+failed_comes words r w is text held none (refused fault at) e = absurd (omega (arith, e))
+failed_comes words r w is text held none {m = m} (accepted s read o of) e = failed_of words r o w is text held read none m.plain m of e
 
-failed_from : (words : List (List ℕ)) (contents : Told) (before now : Counts) {status : ℕ} {bytes : List ℕ} (w : Asked) → asked words ≡ Some w
-    → NoneFailed words contents before now → FromOrigin w.origin w.plain contents before now status bytes → status ≡ 69 → ⊥
-failed_from words contents before now w is none (unread name rose) e = failed_source words contents before now w is w.origin refl name rose none
-failed_from words contents before now w is none (too_long long) e = absurd (omega (arith, e))
-failed_from words contents before now w is none (source text held short status bytes comes) e = failed_comes words contents before now w is text held none comes e
+failed_source : (words : List (List ℕ)) (r : Reading) (w : Asked) → asked words ≡ Some w → (origin : AskedOrigin) → w.origin ≡ origin
+    → (name : List ℕ) → SourceFailed origin r name → NoneFailed words r → ⊥
+failed_source words r w is (file f) at name rose none = none name (the_source w is name (at ∙ ap file (sym rose.0))) rose.1
+failed_source words r w is (mesh seed size) at name rose none = absurd rose
 
-failed : (words : List (List ℕ)) (contents : Told) (before now : Counts) {status : ℕ} {bytes : List ℕ} → NoneFailed words contents before now
-    → ToCome words contents before now status bytes → status ≡ 69 → ⊥
-failed words contents before now none (untaken is) e = absurd (omega (arith, e))
-failed words contents before now none (taken w is status bytes from) e = failed_from words contents before now w is none from e
+failed_from : (words : List (List ℕ)) (r : Reading) {o : Outcome} (w : Asked) → asked words ≡ Some w
+    → NoneFailed words r → FromOrigin w.origin w.manner r o → o.status ≡ 69 → ⊥
+failed_from words r w is none (unread name rose) e = failed_source words r w is w.origin refl name rose none
+failed_from words r w is none (too_long long) e = absurd (omega (arith, e))
+failed_from words r w is none (source text held short o comes) e = failed_comes words r w is text held none comes e
+
+failed : (words : List (List ℕ)) (r : Reading) {o : Outcome} → NoneFailed words r → ToCome words r o → o.status ≡ 69 → ⊥
+failed words r none (untaken is) e = absurd (omega (arith, e))
+failed words r none (taken w is o from) e = failed_from words r w is none from e
 
 -- with no fault in the call
-pub complete : (words : List (List ℕ)) (contents : Told) (before now : Counts) (failures failures_now result : ℕ) (old new : Option (List ℕ))
-    → IsAnswer words contents before now failures failures_now result old new
-    → (Rose failures failures_now → ⊥) → NoneFailed words contents before now → IsComplete words contents before now result old new
-complete words contents before now failures failures_now result old new (inr m) no_failure none = inr m
-complete words contents before now failures failures_now result old new (inl (status, (bytes, (comes, inr f)))) no_failure none = absurd (no_failure f.1.0)
-complete words contents before now failures failures_now result old new (inl (status, (bytes, (comes, inl w)))) no_failure none =
-    inl (bytes, (subst (λ n. ToCome words contents before now n bytes) (sym w.0) comes, ((λ e. failed words contents before now none comes (sym w.0 ∙ e)), w.1)))
+complete_by : (words : List (List ℕ)) (r : Reading) (result : ℕ) (old new : Left) (o : Outcome) → ToCome words r o → (e : Ends o result old new)
+    → (Rose old.failures new.failures → ⊥) → NoneFailed words r → IsComplete words r result old new
+complete_by words r result old new o comes e no_failure none = by e.wrote
+  where
+    by : IsWritten o.status o.bytes result old.failures new.failures old.written new.written → IsComplete words r result old new
+    by (inr f) = absurd (no_failure f.1.0)
+    by (inl w) = inl (o, (comes, record { status = w.0; read = λ z. failed words r none comes (sym w.0 ∙ z); written = w.1; played = e.played }))
+
+pub complete : (words : List (List ℕ)) (r : Reading) (result : ℕ) (old new : Left) → IsAnswer words r result old new
+    → (Rose old.failures new.failures → ⊥) → NoneFailed words r → IsComplete words r result old new
+complete words r result old new (inr m) no_failure none = inr m
+complete words r result old new (inl (o, (comes, e))) no_failure none = complete_by words r result old new o comes e no_failure none
 
 -- ---- a run
 
@@ -92,53 +103,68 @@ not_run : {X : Type 0} (status n : ℕ) → status ≡ n → (n ≡ 0 → ⊥) �
 not_run status n is no_zero no_three (inl e) = absurd (no_zero (sym is ∙ e))
 not_run status n is no_zero no_three (inr e) = absurd (no_three (sym is ∙ e))
 
-wrote_plain : {contents : Told} {before now : Counts} {s : Source} {status : ℕ} {bytes : List ℕ} (result : ℕ) (old new : Option (List ℕ)) → IsPlain contents before now s status bytes
-    → IsRun result → result ≡ status → new ≡ appended old bytes → Wrote contents before now s result old new true
-wrote_plain result old new (unread_file array l) run is written = not_run result 69 is (λ e. omega (arith, e)) (λ e. omega (arith, e)) run
-wrote_plain result old new (faulty_file array fault l) run is written = not_run result 66 is (λ e. omega (arith, e)) (λ e. omega (arith, e)) run
-wrote_plain result old new (ran store l) run is written = plain_text store l is written
+run_plainly : {r : Reading} {s : Source} {o : Outcome} (m : Manner) → OverData r s (RunsPlainly s) o → IsRun o.status → HasRun r m s true o
+run_plainly m (unread_file array l) run = not_run 69 69 refl (λ e. omega (arith, e)) (λ e. omega (arith, e)) run
+run_plainly m (faulty_file array fault l) run = not_run 66 66 refl (λ e. omega (arith, e)) (λ e. omega (arith, e)) run
+run_plainly m (ran store l o runs) run = plainly store l o runs
 
-wrote_first : {contents : Told} {before now : Counts} {s : Source} {status : ℕ} {bytes : List ℕ} (result : ℕ) (old new : Option (List ℕ)) → IsFirst s status bytes
-    → IsRun result → result ≡ status → new ≡ appended old bytes → Wrote contents before now s result old new false
-wrote_first result old new (unbuilt place stops) run is written = not_run result 65 is (λ e. omega (arith, e)) (λ e. omega (arith, e)) run
-wrote_first result old new (ran_first p first) run is written = first_text_of p first is written
+run_turns : {r : Reading} {s : Source} {o : Outcome} (m : Manner) → OverData r s (RunsInTurns m s) o → IsRun o.status → HasRun r m s false o
+run_turns m (unread_file array l) run = not_run 69 69 refl (λ e. omega (arith, e)) (λ e. omega (arith, e)) run
+run_turns m (faulty_file array fault l) run = not_run 66 66 refl (λ e. omega (arith, e)) (λ e. omega (arith, e)) run
+run_turns m (ran store l o runs) run = in_turns store l o runs
 
-wrote : (contents : Told) (before now : Counts) (s : Source) (status : ℕ) (bytes : List ℕ) (plain : Bool) (result : ℕ) (old new : Option (List ℕ)) → ComesOf plain contents before now s status bytes
-    → IsRun result → result ≡ status → new ≡ appended old bytes → Wrote contents before now s result old new plain
-wrote contents before now s status bytes true result old new c run is written = wrote_plain result old new c run is written
-wrote contents before now s status bytes false result old new c run is written = wrote_first result old new c run is written
+run_nodes : {r : Reading} {s : Source} {o : Outcome} (m : Manner) → OnNodes m r s o → IsRun o.status → HasRun r m s false o
+run_nodes m (ran_first p first) run = of_first_form p first _ refl refl refl
+run_nodes m (unbuilt other place stops) run = not_run 65 65 refl (λ e. omega (arith, e)) (λ e. omega (arith, e)) run
+run_nodes m (ran_turns other built o d) run = run_turns m d run
 
-ran_from : (words : List (List ℕ)) (contents : Told) (before now : Counts) {status : ℕ} {bytes : List ℕ} (result : ℕ) (old new : Option (List ℕ)) (w : Asked) → asked words ≡ Some w
-    → (text : List ℕ) → IsText contents w.origin text → {plain : Bool} → w.plain ≡ plain
-    → Comes plain (data_told w.origin contents) (data_counts w.origin before) (data_counts w.origin now) text status bytes
-    → IsRun result → result ≡ status → new ≡ appended old bytes → RanRight words contents before now result old new
-ran_from words contents before now result old new w is text held same (refused fault at) run e written = not_run result 65 e (λ z. omega (arith, z)) (λ z. omega (arith, z)) run
-ran_from words contents before now result old new w is text held {plain = plain} same (accepted s read status bytes of) run e written =
-    record {
-      request = w;
-      taken = is;
-      text = text;
-      held = held;
-      source = s;
-      read = read;
-      wrote =
-          subst (λ b. Wrote (data_told w.origin contents) (data_counts w.origin before) (data_counts w.origin now) s result old new b) (sym same)
-          (wrote (data_told w.origin contents) (data_counts w.origin before) (data_counts w.origin now) s status bytes plain result old new of run e written);
-    }
+has_run : (r : Reading) (m : Manner) (s : Source) (plain : Bool) (o : Outcome) → ComesOf plain m r s o → IsRun o.status → HasRun r m s plain o
+has_run r m s true o c run = run_plainly m c run
+has_run r m s false o c run = run_nodes m c run
 
-ran_origin : (words : List (List ℕ)) (contents : Told) (before now : Counts) {status : ℕ} {bytes : List ℕ} (result : ℕ) (old new : Option (List ℕ)) (w : Asked) → asked words ≡ Some w
-    → FromOrigin w.origin w.plain contents before now status bytes → IsRun result → result ≡ status → new ≡ appended old bytes → RanRight words contents before now result old new
-ran_origin words contents before now result old new w is (unread name rose) run e written = not_run result 69 e (λ z. omega (arith, z)) (λ z. omega (arith, z)) run
-ran_origin words contents before now result old new w is (too_long long) run e written = not_run result 65 e (λ z. omega (arith, z)) (λ z. omega (arith, z)) run
-ran_origin words contents before now result old new w is (source text held short status bytes comes) run e written = ran_from words contents before now result old new w is text held refl comes run e written
+-- the end of an outcome, whole
+pub record IsWhole (o : Outcome) (result : ℕ) (old new : Left) : Type 0 where
+  pub status : result ≡ o.status
+  pub written : new.written ≡ appended old.written o.bytes
+  pub ends : Ends o result old new
 
-ran_by : (words : List (List ℕ)) (contents : Told) (before now : Counts) {status : ℕ} {bytes : List ℕ} (result : ℕ) (old new : Option (List ℕ))
-    → ToCome words contents before now status bytes → IsRun result → result ≡ status → new ≡ appended old bytes → RanRight words contents before now result old new
-ran_by words contents before now result old new (untaken is) run e written = not_run result 2 e (λ z. omega (arith, z)) (λ z. omega (arith, z)) run
-ran_by words contents before now result old new (taken w is status bytes from) run e written = ran_origin words contents before now result old new w is from run e written
+ran_text : (words : List (List ℕ)) (r : Reading) {o : Outcome} (result : ℕ) (old new : Left) (w : Asked) → asked words ≡ Some w
+    → (text : List ℕ) → IsText r.contents w.origin text → Comes w.manner (data_read w.origin r) text o → IsRun result → IsWhole o result old new
+    → RanRight words r result old new
+ran_text words r result old new w is text held (refused fault at) run e = not_run result 65 e.status (λ z. omega (arith, z)) (λ z. omega (arith, z)) run
+ran_text words r result old new w is text held (accepted s read o of) run e = record {
+  request = w;
+  taken = is;
+  text = text;
+  held = held;
+  source = s;
+  read = read;
+  outcome = o;
+  run = has_run (data_read w.origin r) w.manner s w.manner.plain o of (subst IsRun e.status run);
+  status = e.status;
+  written = e.written;
+  played = e.ends.played;
+}
 
-pub ran_right : (words : List (List ℕ)) (contents : Told) (before now : Counts) (failures failures_now result : ℕ) (old new : Option (List ℕ))
-    → IsAnswer words contents before now failures failures_now result old new → IsRun result → RanRight words contents before now result old new
-ran_right words contents before now failures failures_now result old new (inr m) run = not_run result 70 m.0 (λ z. omega (arith, z)) (λ z. omega (arith, z)) run
-ran_right words contents before now failures failures_now result old new (inl (status, (bytes, (comes, inr f)))) run = not_run result 74 f.0 (λ z. omega (arith, z)) (λ z. omega (arith, z)) run
-ran_right words contents before now failures failures_now result old new (inl (status, (bytes, (comes, inl w)))) run = ran_by words contents before now result old new comes run w.0 w.1
+ran_origin : (words : List (List ℕ)) (r : Reading) {o : Outcome} (result : ℕ) (old new : Left) (w : Asked) → asked words ≡ Some w
+    → FromOrigin w.origin w.manner r o → IsRun result → IsWhole o result old new → RanRight words r result old new
+ran_origin words r result old new w is (unread name rose) run e = not_run result 69 e.status (λ z. omega (arith, z)) (λ z. omega (arith, z)) run
+ran_origin words r result old new w is (too_long long) run e = not_run result 65 e.status (λ z. omega (arith, z)) (λ z. omega (arith, z)) run
+ran_origin words r result old new w is (source text held short o comes) run e = ran_text words r result old new w is text held comes run e
+
+ran_by : (words : List (List ℕ)) (r : Reading) {o : Outcome} (result : ℕ) (old new : Left) → ToCome words r o → IsRun result → IsWhole o result old new
+    → RanRight words r result old new
+ran_by words r result old new (untaken is) run e = not_run result 2 e.status (λ z. omega (arith, z)) (λ z. omega (arith, z)) run
+ran_by words r result old new (taken w is o from) run e = ran_origin words r result old new w is from run e
+
+ran_end : (words : List (List ℕ)) (r : Reading) (result : ℕ) (old new : Left) (o : Outcome) → ToCome words r o → Ends o result old new → IsRun result
+    → RanRight words r result old new
+ran_end words r result old new o comes e run = by e.wrote
+  where
+    by : IsWritten o.status o.bytes result old.failures new.failures old.written new.written → RanRight words r result old new
+    by (inl w) = ran_by words r result old new comes run (record { status = w.0; written = w.1; ends = e })
+    by (inr f) = not_run result 74 f.0 (λ z. omega (arith, z)) (λ z. omega (arith, z)) run
+
+pub ran_right : (words : List (List ℕ)) (r : Reading) (result : ℕ) (old new : Left) → IsAnswer words r result old new → IsRun result → RanRight words r result old new
+ran_right words r result old new (inr m) run = not_run result 70 m.status (λ z. omega (arith, z)) (λ z. omega (arith, z)) run
+ran_right words r result old new (inl (o, (comes, e))) run = ran_end words r result old new o comes e run

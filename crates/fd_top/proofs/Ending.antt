@@ -1,36 +1,41 @@
 -- Ways of ending, one within another.
-use Rattle.std.proofs.Common.{◌≡◌, ℕ, ◌<◌, ◌≤◌, ◌⊎◌, Bool, true, false, List, length, ap, sym, ◌∙◌, subst, inl, inr, arith}
-use Rattle.std.specs.Prelude.{ℤ, Option, IfSome, IfOk, Ok, Err, Result, All}
+use Rattle.std.proofs.Common.{◌≡◌, ℕ, ◌<◌, ◌≤◌, ◌⊎◌, Bool, true, false, List, length, refl, ap, sym, ◌∙◌, subst, inl, inr, arith}
+use Rattle.std.specs.Prelude.{ℤ, Option, Some, None, IfSome, IfOk, Ok, Err, Result, if◌then◌else◌, is_some}
 use Rattle.fd_outside.specs.Causes.{Rose, NoneFell}
 use Rattle.fd_program.specs.declared.checked.Checked.{Checked}
-use Rattle.fd_program.specs.declared.site.Site.{Site}
-use Rattle.fd_checks.specs.Shapes.{AreShaped}
+use Rattle.fd_program.specs.declared.refused.Refused.{Refused}
 use Rattle.fd_load.specs.Loads.{IsLoaded}
 use Rattle.fd_load.specs.declared.store.LoadStop.{LoadStop}
 use Rattle.fd_load.specs.declared.store.LoadStop.TheVariants.{Unread, Fault, Memory}
 use Rattle.fd_command.specs.Asked.{file, mesh}
+use Rattle.fd_command.specs.declared.request.Manner.{Manner}
 use Rattle.fd_front.specs.declared.source.Source.{Source}
 use Rattle.fd_front.specs.Sources.{IsRead}
 use Rattle.fd_words.specs.declared.source.SourceStop.{SourceStop}
 use Rattle.fd_words.specs.declared.source.SourceStop.TheVariants as stop
 use Rattle.fd_words.specs.declared.wanting.Memory as wanting
+use Rattle.bsp_core.specs.declared.played.Played.{Played}
 use Rattle.fd_top.specs.declared.planned.Planned.{Planned}
-use Rattle.fd_top.specs.Stops.{IsRefused, IsStopped}
+use Rattle.fd_top.specs.Stops.{planned, IsRefused, IsStopped}
 use Rattle.fd_top.specs.Made.{told_by}
 use Rattle.fd_mesh.specs.Source.{source_of}
 use Rattle.fd_mesh.specs.Mesh.{files_of}
 use Rattle.fd_mesh.specs.declared.files.FileData.{FileData}
-use Rattle.fd_top.specs.Outcomes.{Told, Counts, IsPlain, unread_file, faulty_file, ran, ComesOf, Comes, refused, accepted, FromOrigin, source}
-use Rattle.fd_top.specs.Answers.{Ends, EndsBy}
+use Rattle.fd_top.specs.Outcomes.{Told, Counts, Reading, reading, Outcome, a_line, OverData, unread_file, faulty_file, ran, OnNodes, ran_first, unbuilt, ran_turns, RunsInTurns, ComesOf, Comes, refused, accepted, FromOrigin, source, unread, status_of_run}
+use Rattle.fd_top.specs.Answers.{Left, Ends, EndsBy, IsWritten, IsWanting, left}
 
-pub ends_more : (P Q : ℕ → List ℕ → Type 0) (result before now : ℕ) (old new : Option (List ℕ)) → ((status : ℕ) (bytes : List ℕ) → P status bytes → Q status bytes)
-    → EndsBy P result before now old new → EndsBy Q result before now old new
-ends_more P Q result before now old new more (inl e) = inl (e.0, (e.1.0, (more e.0 e.1.0 e.1.1.0, e.1.1.1)))
-ends_more P Q result before now old new more (inr m) = inr m
+pub ends_more : (P Q : Outcome → Type 0) (result : ℕ) (old new : Left) → ((o : Outcome) → P o → Q o) → EndsBy P result old new → EndsBy Q result old new
+ends_more P Q result old new more (inl e) = inl (e.0, (more e.0 e.1.0, e.1.1))
+ends_more P Q result old new more (inr m) = inr m
 
-pub ends_one : (Q : ℕ → List ℕ → Type 0) (status : ℕ) (bytes : List ℕ) (result before now : ℕ) (old new : Option (List ℕ)) → Q status bytes
-    → Ends status bytes result before now old new → EndsBy Q result before now old new
-ends_one Q status bytes result before now old new q e = inl (status, (bytes, (q, e)))
+pub ends_one : (Q : Outcome → Type 0) (o : Outcome) (result : ℕ) (old new : Left) → Q o → Ends o result old new → EndsBy Q result old new
+ends_one Q o result old new q e = inl (o, (q, e))
+
+-- a line, which leaves what was played
+pub ends_line : (Q : Outcome → Type 0) (status : ℕ) (bytes : List ℕ) (result before now : ℕ) (old new : Option (List ℕ)) (played : Played) → Q (a_line status bytes)
+    → IsWritten status bytes result before now old new → EndsBy Q result (left before old played) (left now new played)
+ends_line Q status bytes result before now old new played q w =
+    ends_one Q (a_line status bytes) result (left before old played) (left now new played) q (record { wrote = w; played = refl })
 
 -- ---- an earlier count
 
@@ -44,73 +49,71 @@ loaded_earlier contents before middle now c (Err (Unread array)) later l = (l.0,
 loaded_earlier contents before middle now c (Err (Fault array fault)) later l = l
 loaded_earlier contents before middle now c (Err Memory) later l = l
 
-plain_earlier : (contents : Told) (before middle now : Counts) (s : Source) {status : ℕ} {bytes : List ℕ} → NoneFell before middle
-    → IsPlain contents middle now s status bytes → IsPlain contents before now s status bytes
-plain_earlier contents before middle now s later (unread_file array l) = unread_file array (loaded_earlier contents before middle now s.checked (Err (Unread array)) later l)
-plain_earlier contents before middle now s later (faulty_file array fault l) = faulty_file array fault (loaded_earlier contents before middle now s.checked (Err (Fault array fault)) later l)
-plain_earlier contents before middle now s later (ran store l) = ran store (loaded_earlier contents before middle now s.checked (Ok store) later l)
+data_earlier : (contents : Told) (before middle now : Counts) (s : Source) {Runs : List (List ℤ) → Outcome → Type 0} {o : Outcome} → NoneFell before middle
+    → OverData (reading contents middle now) s Runs o → OverData (reading contents before now) s Runs o
+data_earlier contents before middle now s later (unread_file array l) = unread_file array (loaded_earlier contents before middle now s.checked (Err (Unread array)) later l)
+data_earlier contents before middle now s later (faulty_file array fault l) = faulty_file array fault (loaded_earlier contents before middle now s.checked (Err (Fault array fault)) later l)
+data_earlier contents before middle now s later (ran store l o runs) = ran store (loaded_earlier contents before middle now s.checked (Ok store) later l) o runs
 
-of_earlier : (plain : Bool) (contents : Told) (before middle now : Counts) (s : Source) (status : ℕ) (bytes : List ℕ) → NoneFell before middle
-    → ComesOf plain contents middle now s status bytes → ComesOf plain contents before now s status bytes
-of_earlier true contents before middle now s status bytes later c = plain_earlier contents before middle now s later c
-of_earlier false contents before middle now s status bytes later c = c
+nodes_earlier : (m : Manner) (contents : Told) (before middle now : Counts) (s : Source) {o : Outcome} → NoneFell before middle
+    → OnNodes m (reading contents middle now) s o → OnNodes m (reading contents before now) s o
+nodes_earlier m contents before middle now s later (ran_first p first) = ran_first p first
+nodes_earlier m contents before middle now s later (unbuilt other place stops) = unbuilt other place stops
+nodes_earlier m contents before middle now s later (ran_turns other built o d) = ran_turns other built o (data_earlier contents before middle now s later d)
 
-pub comes_earlier : (plain : Bool) (contents : Told) (before middle now : Counts) (text : List ℕ) {status : ℕ} {bytes : List ℕ} → NoneFell before middle
-    → Comes plain contents middle now text status bytes → Comes plain contents before now text status bytes
-comes_earlier plain contents before middle now text later (refused fault is) = refused fault is
-comes_earlier plain contents before middle now text later (accepted s is status bytes of) =
-    accepted s is status bytes (of_earlier plain contents before middle now s status bytes later of)
+of_earlier : (plain : Bool) (m : Manner) (contents : Told) (before middle now : Counts) (s : Source) (o : Outcome) → NoneFell before middle
+    → ComesOf plain m (reading contents middle now) s o → ComesOf plain m (reading contents before now) s o
+of_earlier true m contents before middle now s o later c = data_earlier contents before middle now s later c
+of_earlier false m contents before middle now s o later c = nodes_earlier m contents before middle now s later c
+
+pub comes_earlier : (m : Manner) (contents : Told) (before middle now : Counts) (text : List ℕ) {o : Outcome} → NoneFell before middle
+    → Comes m (reading contents middle now) text o → Comes m (reading contents before now) text o
+comes_earlier m contents before middle now text later (refused fault is) = refused fault is
+comes_earlier m contents before middle now text later (accepted s is o of) = accepted s is o (of_earlier m.plain m contents before middle now s o later of)
 
 -- ---- from a file, and from the words
 
 -- a text that was read
-pub from_text : (name : List ℕ) (plain : Bool) (contents middle_contents : Told) (before middle now : Counts) (text : List ℕ) (result failures failures_now : ℕ) (old new : Option (List ℕ))
+pub from_text : (name : List ℕ) (m : Manner) (contents middle_contents : Told) (before middle now : Counts) (text : List ℕ) (result : ℕ) (old new : Left)
     → IfSome (contents name) (λ held. text ≡ held) → length text ≤ 1048576 → middle_contents ≡ contents → NoneFell before middle
-    → EndsBy (Comes plain middle_contents middle now text) result failures failures_now old new
-    → EndsBy (FromOrigin (file name) plain contents before now) result failures failures_now old new
-from_text name plain contents middle_contents before middle now text result failures failures_now old new held short same later e =
-    ends_more (Comes plain middle_contents middle now text) (FromOrigin (file name) plain contents before now) result failures failures_now old new
-    (λ status bytes c. source text held short status bytes (comes_earlier plain contents before middle now text later (subst (λ told. Comes plain told middle now text status bytes) same c))) e
+    → EndsBy (Comes m (reading middle_contents middle now) text) result old new → EndsBy (FromOrigin (file name) m (reading contents before now)) result old new
+from_text name m contents middle_contents before middle now text result old new held short same later e =
+    ends_more (Comes m (reading middle_contents middle now) text) (FromOrigin (file name) m (reading contents before now)) result old new
+    (λ o c. source text held short o (comes_earlier m contents before middle now text later (subst (λ told. Comes m (reading told middle now) text o) same c))) e
 
-pub from_failure : (name line : List ℕ) (plain : Bool) (contents : Told) (before now : Counts) (result failures failures_now : ℕ) (old new : Option (List ℕ))
-    → FromOrigin (file name) plain contents before now 69 line
-    → Ends 69 line result failures failures_now old new ⊎ ((result ≡ 70) × (new ≡ old))
-    → EndsBy (FromOrigin (file name) plain contents before now) result failures failures_now old new
-from_failure name line plain contents before now result failures failures_now old new from (inl e) =
-    ends_one (FromOrigin (file name) plain contents before now) 69 line result failures failures_now old new from e
-from_failure name line plain contents before now result failures failures_now old new from (inr m) = inr m
-
--- sites of at most 64 references
-pub few_references : (sites : List Site) → AreShaped sites → All (λ (s : Site). length s.references ≤ 64) sites
-few_references sites shaped = λ k d less. (shaped k d less).few
+pub from_failure : (name line : List ℕ) (m : Manner) (r : Reading) (result : ℕ) (old new : Left) → FromOrigin (file name) m r (a_line 69 line)
+    → EndsBy (λ o. o ≡ a_line 69 line) result old new → EndsBy (FromOrigin (file name) m r) result old new
+from_failure name line m r result old new from e =
+    ends_more (λ o. o ≡ a_line 69 line) (FromOrigin (file name) m r) result old new (λ o is. subst (FromOrigin (file name) m r) (sym is) from) e
 
 -- ---- what is planned
 
--- a status and bytes that are planned
-pub planned_as : (P : ℕ → List ℕ → Type 0) (r : Result Planned wanting.Memory) (status : ℕ) (bytes : List ℕ)
-    → IfOk r (λ plan. plan.status ≡ status) → IfOk r (λ plan. plan.text ≡ bytes) → P status bytes → IfOk r (λ plan. P plan.status plan.text)
-planned_as P (Err m) status bytes s t p = tt
-planned_as P (Ok plan) status bytes s t p = subst (λ n. P n plan.text) (sym s) (subst (λ b. P status b) (sym t) p)
+-- an outcome that is planned
+pub planned_as : (P : Outcome → Type 0) (r : Result Planned wanting.Memory) (o : Outcome) → IfOk r (λ plan. planned plan ≡ o) → P o → IfOk r (λ plan. P (planned plan))
+planned_as P (Err m) o is p = tt
+planned_as P (Ok plan) o is p = subst P (sym is) p
 
 -- one thing that is planned says another
-pub planned_more : (P Q : ℕ → List ℕ → Type 0) (r : Result Planned wanting.Memory) → ((status : ℕ) (bytes : List ℕ) → P status bytes → Q status bytes)
-    → IfOk r (λ plan. P plan.status plan.text) → IfOk r (λ plan. Q plan.status plan.text)
+pub planned_more : (P Q : Outcome → Type 0) (r : Result Planned wanting.Memory) → ((o : Outcome) → P o → Q o) → IfOk r (λ plan. P (planned plan)) → IfOk r (λ plan. Q (planned plan))
 planned_more P Q (Err m) more p = tt
-planned_more P Q (Ok plan) more p = more plan.status plan.text p
+planned_more P Q (Ok plan) more p = more (planned plan) p
 
-pub refused_comes : (plain : Bool) (contents : Told) (before now : Counts) (text : List ℕ) (s : SourceStop) (status : ℕ) (bytes : List ℕ)
-    → IsRead text (Err s) → IsRefused s status bytes → Comes plain contents before now text status bytes
-refused_comes plain contents before now text (stop.Fault fault) status bytes is r =
-    subst (λ n. Comes plain contents before now text n bytes) (sym r.0) (subst (λ b. Comes plain contents before now text 65 b) (sym r.1) (refused fault is))
-refused_comes plain contents before now text stop.Memory status bytes is r = absurd r
+-- the status of a run that tells whether it was refused
+pub status_told : (o : Option Refused) (is_refused : Bool) (status : ℕ) → is_refused ≡ is_some o → status ≡ (if is_refused then 3 else 0) → status ≡ status_of_run o
+status_told None is_refused status e f = f ∙ ap (λ b. if b then 3 else 0) e
+status_told (Some r) is_refused status e f = f ∙ ap (λ b. if b then 3 else 0) e
 
-pub stopped_plain : (contents : Told) (before now : Counts) (s : Source) (e : LoadStop) (status : ℕ) (bytes : List ℕ)
-    → IsLoaded contents before now s.checked (Err e) → IsStopped s e status bytes → IsPlain contents before now s status bytes
-stopped_plain contents before now s (Unread array) status bytes l r =
-    subst (λ n. IsPlain contents before now s n bytes) (sym r.0) (subst (λ b. IsPlain contents before now s 69 b) (sym r.1) (unread_file array l))
-stopped_plain contents before now s (Fault array fault) status bytes l r =
-    subst (λ n. IsPlain contents before now s n bytes) (sym r.0) (subst (λ b. IsPlain contents before now s 66 b) (sym r.1) (faulty_file array fault l))
-stopped_plain contents before now s Memory status bytes l r = absurd r
+-- ---- stops
+
+pub refused_comes : (m : Manner) (r : Reading) (text : List ℕ) (s : SourceStop) (o : Outcome) → IsRead text (Err s) → IsRefused s o → Comes m r text o
+refused_comes m r text (stop.Fault fault) o is e = subst (Comes m r text) (sym e) (refused fault is)
+refused_comes m r text stop.Memory o is e = absurd e
+
+pub stopped_data : (r : Reading) (s : Source) (Runs : List (List ℤ) → Outcome → Type 0) (end : LoadStop) (o : Outcome) → IsLoaded r.contents r.before r.now s.checked (Err end)
+    → IsStopped s end o → OverData r s Runs o
+stopped_data r s Runs (Unread array) o l e = subst (OverData r s Runs) (sym e) (unread_file array l)
+stopped_data r s Runs (Fault array fault) o l e = subst (OverData r s Runs) (sym e) (faulty_file array fault l)
+stopped_data r s Runs Memory o l e = absurd e
 
 -- ---- from a mesh
 
@@ -118,13 +121,12 @@ pub long_mesh : (size size-1 len : ℕ) (made : List ℕ) → made ≡ source_of
 long_mesh size size-1 len made is same is_len more =
     subst (λ n. 1048576 < length (source_of n)) same (subst (λ (t : List ℕ). 1048576 < length t) is (subst (λ n. 1048576 < n) is_len more))
 
-pub from_made : (seed size seed-1 size-1 len : ℕ) (plain : Bool) (contents : Told) (before now : Counts) (made text : List ℕ) (files : List FileData) (result failures failures_now : ℕ) (old new : Option (List ℕ))
+pub from_made : (seed size seed-1 size-1 len : ℕ) (m : Manner) (r : Reading) (made text : List ℕ) (files : List FileData) (result : ℕ) (old new : Left)
     → made ≡ source_of size-1 → files ≡ files_of seed-1 size-1 → seed-1 ≡ seed → size-1 ≡ size → text ≡ made → len ≡ length made → len ≤ 1048576
-    → EndsBy (Comes plain (told_by files) (λ other. 0) (λ other. 0) text) result failures failures_now old new
-    → EndsBy (FromOrigin (mesh seed size) plain contents before now) result failures failures_now old new
-from_made seed size seed-1 size-1 len plain contents before now made text files result failures failures_now old new is_source are_files same_seed same_size is_text is_len short e =
+    → EndsBy (Comes m (reading (told_by files) (λ other. 0) (λ other. 0)) text) result old new → EndsBy (FromOrigin (mesh seed size) m r) result old new
+from_made seed size seed-1 size-1 len m r made text files result old new is_source are_files same_seed same_size is_text is_len short e =
     let whole : text ≡ source_of size = is_text ∙ is_source ∙ ap source_of same_size in
     let little : length text ≤ 1048576 = subst (λ (t : List ℕ). length t ≤ 1048576) (sym is_text) (subst (λ n. n ≤ 1048576) is_len short) in
     let same : files ≡ files_of seed size = are_files ∙ ap (λ n. files_of n size-1) same_seed ∙ ap (files_of seed) same_size in
-    ends_more (Comes plain (told_by files) (λ other. 0) (λ other. 0) text) (FromOrigin (mesh seed size) plain contents before now) result failures failures_now old new
-    (λ status bytes c. source text whole little status bytes (subst (λ (fs : List FileData). Comes plain (told_by fs) (λ other. 0) (λ other. 0) text status bytes) same c)) e
+    ends_more (Comes m (reading (told_by files) (λ other. 0) (λ other. 0)) text) (FromOrigin (mesh seed size) m r) result old new
+    (λ o c. source text whole little o (subst (λ (fs : List FileData). Comes m (reading (told_by fs) (λ other. 0) (λ other. 0)) text o) same c)) e

@@ -1,2 +1,5 @@
 pub mod Ending
 pub mod Answered
+pub mod FirstForm
+pub mod Loaded
+pub mod Prints

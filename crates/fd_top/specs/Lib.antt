@@ -1,3 +1,4 @@
+pub mod Built
 pub mod Made
 pub mod Outcomes
 pub mod Stops

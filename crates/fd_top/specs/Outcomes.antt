@@ -1,5 +1,5 @@
--- What a call has to write, and its status.
-use Rattle.std.specs.Prelude.{ℕ, ℤ, ◌≡◌, ◌<◌, ◌≤◌, Bool, true, false, List, length, Option, Some, None, Ok, Err, IfSome, codes}
+-- What comes of a call: its status, what it writes, and what was played.
+use Rattle.std.specs.Prelude.{ℕ, ℤ, ◌≡◌, ◌<◌, ◌≤◌, Bool, true, false, List, length, Option, Some, None, Ok, Err, IfSome, IsSomeAnd, codes}
 use Rattle.fd_words.specs.declared.source.SourcePlace.{SourcePlace}
 use Rattle.fd_words.specs.declared.source.SourceFault.{SourceFault}
 use Rattle.fd_words.specs.declared.source.SourceCause.TheVariants.{NotBuilt}
@@ -8,11 +8,15 @@ use Rattle.fd_data.specs.declared.read.DataFault.{DataFault}
 use Rattle.fd_program.specs.Stores.{array_at}
 use Rattle.fd_program.specs.Runs.{run_of}
 use Rattle.fd_program.specs.Texts.{text_of}
+use Rattle.fd_program.specs.declared.loop_facts.HomeRule.TheVariants.{Owner}
 use Rattle.fd_program.specs.declared.refused.Refused.{Refused}
 use Rattle.fd_command.specs.Asked.{Asked, AskedOrigin, file, mesh, asked}
+use Rattle.fd_command.specs.declared.request.Manner.{Manner}
+use Rattle.fd_command.specs.declared.request.Turns.{Turns}
+use Rattle.fd_command.specs.declared.request.Turns.TheVariants as turns
 use Rattle.fd_mesh.specs.Source.{source_of}
 use Rattle.fd_mesh.specs.Mesh.{files_of}
-use Rattle.fd_first.specs.Stages.{first_form, StopsAt}
+use Rattle.fd_first.specs.Stages.{first_form}
 use Rattle.fd_first.specs.Meaning.{end_of}
 use Rattle.fd_first.specs.Texts.{text_of as first_text}
 use Rattle.fd_first.specs.declared.first_form.FirstProgram.{FirstProgram}
@@ -24,6 +28,14 @@ use Rattle.fd_load.specs.Files.{file_of, IsHeld}
 use Rattle.fd_load.specs.Loads.{IsLoaded}
 use Rattle.fd_load.specs.Lines.{data_line, unread_line}
 use Rattle.fd_load.specs.declared.store.LoadStop.TheVariants.{Unread, Fault}
+use Rattle.bsp_core.specs.Turns.{sent_of}
+use Rattle.bsp_core.specs.declared.played.Played.{Played}
+use Rattle.chaos_engine.specs.Runs.{IsOrdered}
+use Rattle.chaos_engine.specs.declared.turns.Order.{Order}
+use Rattle.chaos_engine.specs.declared.turns.Order.TheVariants as order
+use Rattle.chaos_run.specs.Phases.{due_list}
+use Rattle.chaos_run.specs.Rows.{RunPlan}
+use Rattle.fd_top.specs.Built.{first_unbuilt}
 use Rattle.fd_top.specs.Made.{told_by}
 
 unfoldable pub usage_line : List ℕ
@@ -39,6 +51,25 @@ Told = List ℕ → Option (List ℕ)
 abbrev pub Counts : Type 0
 Counts = List ℕ → ℕ
 
+-- the files as a call read them: what they hold, and the counts before and after the call
+pub record Reading : Type 0 where
+  pub contents : Told
+  pub before : Counts
+  pub now : Counts
+
+abbrev pub reading : Told → Counts → Counts → Reading
+reading contents before now = record { contents = contents; before = before; now = now }
+
+-- what comes of a call: the status, the bytes to write, and what was played, if the nodes took turns
+pub record Outcome : Type 0 where
+  pub status : ℕ
+  pub bytes : List ℕ
+  pub played : Option Played
+
+-- a line and no turns
+abbrev pub a_line : ℕ → List ℕ → Outcome
+a_line status bytes = record { status = status; bytes = bytes; played = None }
+
 -- 3 where a run is refused, else 0
 abbrev pub status_of_first : Option Refusal → ℕ
 status_of_first None = 0
@@ -48,33 +79,67 @@ abbrev pub status_of_run : Option Refused → ℕ
 status_of_run None = 0
 status_of_run (Some refused) = 3
 
+-- ---- a run over data
+
+-- the sequential run's status and text
+pub record IsRunOf (s : Source) (store : List (List ℤ)) (o : Outcome) : Type 0 where
+  pub status : o.status ≡ status_of_run (run_of s.checked store).refused
+  pub text : o.bytes ≡ text_of s.checked store
+
+-- on one machine, without turns
+pub record RunsPlainly (s : Source) (store : List (List ℤ)) (o : Outcome) : Type 0 where
+  pub run : IsRunOf s store o
+  pub plain : o.played ≡ None
+
+abbrev pub order_of : Turns → Order
+order_of turns.RoundRobin = order.RoundRobin
+order_of (turns.Seeded seed) = order.Seeded seed
+
+-- the plan of a source's nodes
+abbrev pub plan_for : Manner → Source → List (List ℤ) → RunPlan
+plan_for m s store = record { checked = s.checked; nodes = m.nodes; rule = Owner; store = store }
+
+-- what was played on a source's nodes: from each node to each the letters that are due, and the moves of turns in the given order
+pub record IsPlay (m : Manner) (s : Source) (store : List (List ℤ)) (played : Played) : Type 0 where
+  pub letters : (p q : ℕ) → p < m.nodes → q < m.nodes → sent_of m.nodes played.sent p q ≡ due_list s.checked m.nodes Owner store p q
+  pub moves : IsOrdered (plan_for m s store) (order_of m.turns) played.moved played.sent
+
+-- on nodes that take turns
+pub record RunsInTurns (m : Manner) (s : Source) (store : List (List ℤ)) (o : Outcome) : Type 0 where
+  pub run : IsRunOf s store o
+  pub turns : IsSomeAnd o.played (IsPlay m s store)
+
+-- what a source comes to over its data files: one that can't be read or is faulty, or a run from the store that they give
+pub data OverData (r : Reading) (s : Source) (Runs : List (List ℤ) → Outcome → Type 0) : Outcome → Type 0 where
+  unread_file : (array : ℕ) → IsLoaded r.contents r.before r.now s.checked (Err (Unread array))
+      → OverData r s Runs (a_line 69 (unread_line (file_of (array_at s.checked.arrays array))))
+  faulty_file : (array : ℕ) (fault : DataFault) → IsLoaded r.contents r.before r.now s.checked (Err (Fault array fault))
+      → OverData r s Runs (a_line 66 (data_line (array_at s.checked.arrays array).name fault))
+  ran : (store : List (List ℤ)) → IsLoaded r.contents r.before r.now s.checked (Ok store) → (o : Outcome) → Runs store o → OverData r s Runs o
+
+-- ---- a source
+
 -- what isn't built yet, at a place
 abbrev pub not_built_at : SourcePlace → SourceFault
 not_built_at place = record { at = place; cause = NotBuilt }
 
--- what a source comes to on nodes, however many
-pub data IsFirst (s : Source) : ℕ → List ℕ → Type 0 where
-  unbuilt : (place : SourcePlace) → StopsAt s.tokens.tokens place → IsFirst s 65 (fault_line (not_built_at place))
-  ran_first : (p : FirstProgram) → first_form s.tokens.tokens ≡ Some p → IsFirst s (status_of_first (end_of p).refused) (first_text p)
+-- what a source comes to on nodes: one of the first form has nodes of its own, which take no turns; any other takes turns,
+-- unless it has something that isn't built
+pub data OnNodes (m : Manner) (r : Reading) (s : Source) : Outcome → Type 0 where
+  ran_first : (p : FirstProgram) → first_form s.tokens.tokens ≡ Some p → OnNodes m r s (a_line (status_of_first (end_of p).refused) (first_text p))
+  unbuilt : first_form s.tokens.tokens ≡ None → (place : SourcePlace) → first_unbuilt s.tokens.tokens s.program ≡ Some place
+      → OnNodes m r s (a_line 65 (fault_line (not_built_at place)))
+  ran_turns : first_form s.tokens.tokens ≡ None → first_unbuilt s.tokens.tokens s.program ≡ None → (o : Outcome) → OverData r s (RunsInTurns m s) o
+      → OnNodes m r s o
 
--- what a source comes to on one machine: a data file that can't be read or is faulty, or the sequential run
-pub data IsPlain (contents : Told) (before now : Counts) (s : Source) : ℕ → List ℕ → Type 0 where
-  unread_file : (array : ℕ) → IsLoaded contents before now s.checked (Err (Unread array))
-      → IsPlain contents before now s 69 (unread_line (file_of (array_at s.checked.arrays array)))
-  faulty_file : (array : ℕ) (fault : DataFault) → IsLoaded contents before now s.checked (Err (Fault array fault))
-      → IsPlain contents before now s 66 (data_line (array_at s.checked.arrays array).name fault)
-  ran : (store : List (List ℤ)) → IsLoaded contents before now s.checked (Ok store)
-      → IsPlain contents before now s (status_of_run (run_of s.checked store).refused) (text_of s.checked store)
+abbrev pub ComesOf : Bool → Manner → Reading → Source → Outcome → Type 0
+ComesOf true m r s o = OverData r s (RunsPlainly s) o
+ComesOf false m r s o = OnNodes m r s o
 
-abbrev pub ComesOf : Bool → Told → Counts → Counts → Source → ℕ → List ℕ → Type 0
-ComesOf true contents before now s status bytes = IsPlain contents before now s status bytes
-ComesOf false contents before now s status bytes = IsFirst s status bytes
-
--- what a text comes to, with `--plain` or without
-pub data Comes (plain : Bool) (contents : Told) (before now : Counts) (text : List ℕ) : ℕ → List ℕ → Type 0 where
-  refused : (fault : SourceFault) → IsSourceFault text fault → Comes plain contents before now text 65 (fault_line fault)
-  accepted : (s : Source) → IsSource text s → (status : ℕ) (bytes : List ℕ) → ComesOf plain contents before now s status bytes
-      → Comes plain contents before now text status bytes
+-- what a text comes to
+pub data Comes (m : Manner) (r : Reading) (text : List ℕ) : Outcome → Type 0 where
+  refused : (fault : SourceFault) → IsSourceFault text fault → Comes m r text (a_line 65 (fault_line fault))
+  accepted : (s : Source) → IsSource text s → (o : Outcome) → ComesOf m.plain m r s o → Comes m r text o
 
 -- ---- where the text and the data come from
 
@@ -88,32 +153,24 @@ abbrev pub IsLong : Told → AskedOrigin → Type 0
 IsLong contents (file name) = IfSome (contents name) (λ held. 1048576 < length held)
 IsLong contents (mesh seed size) = 1048576 < length (source_of size)
 
--- what the data files hold
-abbrev pub data_told : AskedOrigin → Told → Told
-data_told (file name) contents = contents
-data_told (mesh seed size) contents = told_by (files_of seed size)
-
--- the counts of their failed reads: those of a mesh are made, and no read of them fails
-abbrev pub data_counts : AskedOrigin → Counts → Counts
-data_counts (file name) counts = counts
-data_counts (mesh seed size) counts = λ other. 0
+-- the data files as they are read: those of a mesh are made, and no read of them fails
+abbrev pub data_read : AskedOrigin → Reading → Reading
+data_read (file name) r = r
+data_read (mesh seed size) r = reading (told_by (files_of seed size)) (λ other. 0) (λ other. 0)
 
 -- a read of the file of the source failed in this call
-abbrev pub SourceFailed : AskedOrigin → Counts → Counts → List ℕ → Type 0
-SourceFailed (file source) before now name = (name ≡ source) × Rose (before name) (now name)
-SourceFailed (mesh seed size) before now name = ⊥
+abbrev pub SourceFailed : AskedOrigin → Reading → List ℕ → Type 0
+SourceFailed (file source) r name = (name ≡ source) × Rose (r.before name) (r.now name)
+SourceFailed (mesh seed size) r name = ⊥
 
--- What comes of a source or a mesh, by the files' contents and the counts of failed reads before and after: a source that
--- can't be read or is too long, or what its text comes to.
-pub data FromOrigin (origin : AskedOrigin) (plain : Bool) (contents : Told) (before now : Counts) : ℕ → List ℕ → Type 0 where
-  unread : (name : List ℕ) → SourceFailed origin before now name → FromOrigin origin plain contents before now 69 (unread_line name)
-  too_long : IsLong contents origin → FromOrigin origin plain contents before now 65 too_long_line
-  source : (text : List ℕ) → IsText contents origin text → length text ≤ 1048576 → (status : ℕ) (bytes : List ℕ)
-      → Comes plain (data_told origin contents) (data_counts origin before) (data_counts origin now) text status bytes
-      → FromOrigin origin plain contents before now status bytes
+-- What comes of a source or a mesh: a source that can't be read or is too long, or what its text comes to.
+pub data FromOrigin (origin : AskedOrigin) (m : Manner) (r : Reading) : Outcome → Type 0 where
+  unread : (name : List ℕ) → SourceFailed origin r name → FromOrigin origin m r (a_line 69 (unread_line name))
+  too_long : IsLong r.contents origin → FromOrigin origin m r (a_line 65 too_long_line)
+  source : (text : List ℕ) → IsText r.contents origin text → length text ≤ 1048576 → (o : Outcome) → Comes m (data_read origin r) text o
+      → FromOrigin origin m r o
 
 -- what a call comes to: words that aren't taken, or what comes of what they ask for
-pub data ToCome (words : List (List ℕ)) (contents : Told) (before now : Counts) : ℕ → List ℕ → Type 0 where
-  untaken : asked words ≡ None → ToCome words contents before now 2 usage_line
-  taken : (w : Asked) → asked words ≡ Some w → (status : ℕ) (bytes : List ℕ) → FromOrigin w.origin w.plain contents before now status bytes
-      → ToCome words contents before now status bytes
+pub data ToCome (words : List (List ℕ)) (r : Reading) : Outcome → Type 0 where
+  untaken : asked words ≡ None → ToCome words r (a_line 2 usage_line)
+  taken : (w : Asked) → asked words ≡ Some w → (o : Outcome) → FromOrigin w.origin w.manner r o → ToCome words r o

@@ -1,55 +1,78 @@
-ghost use Rattle.std.specs.Prelude.{◌≡◌, ◌≤◌, length, IfOk};
+ghost use Rattle.std.specs.Prelude.{◌≡◌, ◌≤◌, length, IfOk, None, Ok, if◌then◌else◌};
+ghost use Rattle.std.specs.Option.{is_some};
 ghost use Rattle.fd_grammar.specs.Grammar.{HasTokens};
 ghost use Rattle.fd_outside.specs.Causes.{NoneFell};
 ghost use Rattle.fd_program.specs.Stores.{array_at};
 ghost use Rattle.fd_program.specs.Trace.{trace_of};
-ghost use Rattle.fd_program.specs.Runs.{run_of};
-ghost use Rattle.fd_program.specs.Texts.{text_of};
 ghost use Rattle.fd_first.specs.Meaning.{end_of};
 ghost use Rattle.fd_first.specs.Texts.{text_of as first_text};
 ghost use Rattle.fd_checks.specs.Shapes.{AreShaped};
+ghost use Rattle.fd_checks.specs.Walks.{resolved_program};
 ghost use Rattle.fd_front.specs.Lines.{fault_line};
 ghost use Rattle.fd_load.specs.Files.{file_of};
 ghost use Rattle.fd_load.specs.Lines.{data_line, unread_line};
-ghost use Rattle.fd_top.specs.Outcomes.{status_of_first, status_of_run, IsFirst, IsPlain, ComesOf, Comes};
-ghost use Rattle.fd_top.specs.Stops.{IsRefused, IsStopped};
+ghost use Rattle.fd_program.specs.Checks.{IsChecked};
+ghost use Rattle.fd_program.specs.Stores.{FitsStore};
+ghost use Rattle.chaos_node.specs.Plans.{ArePrints};
+ghost use Rattle.chaos_run.specs.Limits.{IsWithin};
+ghost use Rattle.fd_first.specs.Stages.{first_form};
+ghost use Rattle.fd_trace.specs.Way.{IsUnrolled};
+ghost use Rattle.fd_top.specs.Built.{first_unbuilt};
+ghost use Rattle.fd_top.specs.Outcomes.{a_line, not_built_at, status_of_first, reading, order_of, RunsPlainly, RunsInTurns, OverData, OnNodes, ComesOf, Comes};
+ghost use Rattle.fd_top.specs.Stops.{planned, IsRefused, IsStopped};
 
 use crate::built::not_built;
+use bsp_core::Played;
+use chaos_engine::{Order, run_turns};
+use chaos_node::Session;
+use fd_command::{Manner, Turns};
 use fd_data::DataFault;
 use fd_first::{FirstProgram, first_program, run_first};
 use fd_front::{Source, fault_line, read_source};
 use fd_load::{LoadStop, array_at, file_name, load};
 use fd_meaning::run_plain;
 use fd_outside::Files;
-use fd_program::Store;
-use fd_words::{Bytes, Memory, SourceCause, SourceFault, SourceStop};
+use fd_program::{HomeRule, Store};
+use fd_words::{Bytes, Memory, SourceCause, SourceFault, SourcePlace, SourceStop};
 use std::alloc::Global;
 
-/// What a source comes to: the status, and the bytes to write.
+/// What a source comes to: the status, the bytes to write, and what was played, if its nodes took turns.
 #[derive(Debug, Drop)]
 pub(crate) struct Planned {
     pub(crate) status: u8,
     pub(crate) text: Bytes,
+    pub(crate) played: Option<Played>,
 }
 
-/// How a source is run.
-#[derive(Clone, Copy, Debug)]
-pub(crate) struct Manner {
-    pub(crate) nodes: u32,
-    pub(crate) plain: bool,
+impl Planned {
+    fn line(status: u8, text: Bytes) -> Planned
+        ensures { planned result ≡ a_line status text }
+    {
+        Planned {
+            status,
+            text,
+            played: None,
+        }
+    }
+}
+
+/// The status of a run.
+fn status_of(is_refused: bool) -> u8
+    ensures { result ≡ (if is_refused then 3 else 0) }
+{
+    if is_refused { 3 } else { 0 }
 }
 
 fn refused(alloc: Global, fault: SourceFault) -> Result<Planned, Memory>
-    ensures status { IfOk result (λ plan. plan.status ≡ 65) }
-    ensures text { IfOk result (λ plan. plan.text ≡ fault_line fault) }
+    ensures { IfOk result (λ plan. planned plan ≡ a_line 65 (fault_line fault)) }
 {
     let text = fault_line(alloc, fault)?;
-    Ok(Planned { status: 65, text })
+    Ok(Planned::line(65, text))
 }
 
 /// The line for a text that isn't accepted.
 fn stop_planned(alloc: Global, stop: SourceStop) -> Result<Planned, Memory>
-    ensures { IfOk result (λ plan. IsRefused stop plan.status plan.text) }
+    ensures { IfOk result (λ plan. IsRefused stop (planned plan)) }
 {
     match stop {
         SourceStop::Fault(fault) => refused(alloc, fault),
@@ -57,48 +80,14 @@ fn stop_planned(alloc: Global, stop: SourceStop) -> Result<Planned, Memory>
     }
 }
 
-fn run_planned(alloc: Global, program: &FirstProgram, nodes: u32) -> Result<Planned, Memory>
-    requires some_elements { 1 ≤ program.now.extent }
-    requires some_nodes { 1 ≤ nodes }
-    requires few_nodes { nodes ≤ 16 }
-    ensures status { IfOk result (λ plan. plan.status ≡ status_of_first (end_of program.now).refused) }
-    ensures text { IfOk result (λ plan. plan.text ≡ first_text program.now) }
-{
-    let end = run_first(alloc, program, nodes)?;
-    let status = match end.refused {
-        None => 0,
-        Some(_) => 3,
-    };
-    let text = end.text;
-    Ok(Planned { status, text })
-}
-
-/// Runs a source of the first form on nodes; any other isn't built yet.
-fn first_planned(alloc: Global, source: &Source, nodes: u32) -> Result<Planned, Memory>
-    requires spelled { HasTokens source.now.program source.now.tokens.tokens }
-    requires some_nodes { 1 ≤ nodes }
-    requires few_nodes { nodes ≤ 16 }
-    ensures { IfOk result (λ plan. IsFirst source.now plan.status plan.text) }
-{
-    if let Some(at) = not_built(&source.tokens, &source.program) {
-        let cause = SourceCause::NotBuilt;
-        return refused(alloc, SourceFault { at, cause });
-    }
-    match first_program(alloc, source.tokens.tokens.as_slice())? {
-        Some(program) => run_planned(alloc, &program, nodes),
-        None => unreachable!(),
-    }
-}
-
 /// The line for the file of an array that can't be read.
 fn unread_planned(alloc: Global, source: &Source, array: u64) -> Result<Planned, Memory>
-    ensures status { IfOk result (λ plan. plan.status ≡ 69) }
-    ensures text { IfOk result (λ plan. plan.text ≡ unread_line (file_of (array_at source.now.checked.arrays array))) }
+    ensures { IfOk result (λ plan. planned plan ≡ a_line 69 (unread_line (file_of (array_at source.now.checked.arrays array)))) }
 {
     let facts = array_at(&source.checked, array);
     let name = file_name(alloc, &facts.name)?;
     let text = fd_load::unread_line(alloc, name.as_str())?;
-    Ok(Planned { status: 69, text })
+    Ok(Planned::line(69, text))
 }
 
 /// The line for the file of an array that is faulty.
@@ -108,17 +97,16 @@ fn faulty_planned(
     array: u64,
     fault: DataFault,
 ) -> Result<Planned, Memory>
-    ensures status { IfOk result (λ plan. plan.status ≡ 66) }
-    ensures text { IfOk result (λ plan. plan.text ≡ data_line (array_at source.now.checked.arrays array).name fault) }
+    ensures { IfOk result (λ plan. planned plan ≡ a_line 66 (data_line (array_at source.now.checked.arrays array).name fault)) }
 {
     let facts = array_at(&source.checked, array);
     let text = fd_load::fault_line(alloc, &facts.name, fault)?;
-    Ok(Planned { status: 66, text })
+    Ok(Planned::line(66, text))
 }
 
 /// The line for data files that gave no store.
 fn stopped_planned(alloc: Global, source: &Source, stop: LoadStop) -> Result<Planned, Memory>
-    ensures { IfOk result (λ plan. IsStopped source.now stop plan.status plan.text) }
+    ensures { IfOk result (λ plan. IsStopped source.now stop (planned plan)) }
 {
     match stop {
         LoadStop::Unread { array } => unread_planned(alloc, source, array),
@@ -131,23 +119,18 @@ fn stopped_planned(alloc: Global, source: &Source, stop: LoadStop) -> Result<Pla
 fn store_planned(alloc: Global, source: &Source, store: Store) -> Result<Planned, Memory>
     requires shaped { AreShaped source.now.checked.sites }
     requires trace { source.now.trace ≡ trace_of source.now.checked }
-    ensures status { IfOk result (λ plan. plan.status ≡ status_of_run (run_of source.now.checked store).refused) }
-    ensures text { IfOk result (λ plan. plan.text ≡ text_of source.now.checked store) }
+    ensures { IfOk result (λ plan. RunsPlainly source.now store (planned plan)) }
 {
     let end = run_plain(alloc, &source.checked, &source.trace, store)?;
-    let status = match end.refused {
-        None => 0,
-        Some(_) => 3,
-    };
-    let text = end.text;
-    Ok(Planned { status, text })
+    let status = status_of(end.refused.is_some());
+    Ok(Planned::line(status, end.text))
 }
 
 /// Reads the data files of a source and runs it on one machine.
 fn plain_planned<F: Files>(alloc: Global, source: &Source, files: &mut F) -> Result<Planned, Memory>
     requires shaped { AreShaped source.now.checked.sites }
     requires trace { source.now.trace ≡ trace_of source.now.checked }
-    ensures planned { IfOk result (λ plan. IsPlain (F.contents files.old) (F.faults files.old) (F.faults files.new) source.now plan.status plan.text) }
+    ensures planned { IfOk result (λ plan. OverData (reading (F.contents files.old) (F.faults files.old) (F.faults files.new)) source.now (RunsPlainly source.now) (planned plan)) }
     ensures contents { F.contents files.new ≡ F.contents files.old }
     ensures faults { NoneFell (F.faults files.old) (F.faults files.new) }
 {
@@ -157,26 +140,157 @@ fn plain_planned<F: Files>(alloc: Global, source: &Source, files: &mut F) -> Res
     }
 }
 
-/// What an accepted source comes to.
-fn source_planned<F: Files>(
+/// Runs a program of the first form on its nodes.
+fn first_planned(alloc: Global, program: &FirstProgram, nodes: u32) -> Result<Planned, Memory>
+    requires some_elements { 1 ≤ program.now.extent }
+    requires some_nodes { 1 ≤ nodes }
+    requires few_nodes { nodes ≤ 16 }
+    ensures { IfOk result (λ plan. planned plan ≡ a_line (status_of_first (end_of program.now).refused) (first_text program.now)) }
+{
+    let first = run_first(alloc, program, nodes)?;
+    let status = status_of(first.refused.is_some());
+    Ok(Planned::line(status, first.text))
+}
+
+/// The order of the turns.
+fn order(turns: Turns) -> Order
+    ensures { result ≡ order_of turns }
+{
+    match turns {
+        Turns::RoundRobin => Order::RoundRobin,
+        Turns::Seeded(seed) => Order::Seeded(u64::from(seed)),
+    }
+}
+
+/// Runs a source on nodes that take turns, from its store before the run.
+fn turns_planned(
     alloc: Global,
-    source: &Source,
+    source: Source,
+    manner: Manner,
+    store: &Store,
+) -> Result<Planned, Memory>
+    requires sound { IsChecked source.checked }
+    requires prints { ArePrints (trace_of source.checked) }
+    requires trace { source.trace ≡ trace_of source.checked }
+    requires within { IsWithin source.checked }
+    requires some_nodes { 1 ≤ manner.nodes }
+    requires few_nodes { manner.nodes ≤ 16 }
+    requires store { FitsStore source.checked.arrays store.now }
+    ensures { IfOk result (λ plan. RunsInTurns manner source store.now (planned plan)) }
+{
+    let session = Session {
+        checked: source.checked,
+        trace: source.trace,
+        nodes: manner.nodes,
+        rule: HomeRule::Owner,
+    };
+    let (end, played) = run_turns(alloc, &session, store, order(manner.turns))?;
+    Ok(Planned {
+        status: status_of(end.refused),
+        text: end.text,
+        played: Some(played),
+    })
+}
+
+/// Reads the data files of a source and runs it on nodes that take turns.
+fn played_planned<F: Files>(
+    alloc: Global,
+    source: Source,
     manner: Manner,
     files: &mut F,
 ) -> Result<Planned, Memory>
-    requires spelled { HasTokens source.now.program source.now.tokens.tokens }
-    requires shaped { AreShaped source.now.checked.sites }
-    requires trace { source.now.trace ≡ trace_of source.now.checked }
+    requires sound { IsChecked source.checked }
+    requires prints { ArePrints (trace_of source.checked) }
+    requires trace { source.trace ≡ trace_of source.checked }
+    requires within { IsWithin source.checked }
     requires some_nodes { 1 ≤ manner.nodes }
     requires few_nodes { manner.nodes ≤ 16 }
-    ensures planned { IfOk result (λ plan. ComesOf manner.plain (F.contents files.old) (F.faults files.old) (F.faults files.new) source.now plan.status plan.text) }
+    ensures planned { IfOk result (λ plan. OverData (reading (F.contents files.old) (F.faults files.old) (F.faults files.new)) source (RunsInTurns manner source) (planned plan)) }
+    ensures contents { F.contents files.new ≡ F.contents files.old }
+    ensures faults { NoneFell (F.faults files.old) (F.faults files.new) }
+{
+    match load(alloc, files, &source.checked) {
+        Ok(store) => turns_planned(alloc, source, manner, &store),
+        Err(stop) => stopped_planned(alloc, &source, stop),
+    }
+}
+
+/// Runs a source on nodes.
+fn nodes_planned<F: Files>(
+    alloc: Global,
+    source: Source,
+    manner: Manner,
+    files: &mut F,
+) -> Result<Planned, Memory>
+    requires spelled { HasTokens source.program source.tokens.tokens }
+    requires resolved { source.checked ≡ resolved_program source.program }
+    requires sound { IsChecked source.checked }
+    requires trace { IsUnrolled source.checked (Ok source.trace) }
+    requires some_nodes { 1 ≤ manner.nodes }
+    requires few_nodes { manner.nodes ≤ 16 }
+    ensures planned { IfOk result (λ plan. OnNodes manner (reading (F.contents files.old) (F.faults files.old) (F.faults files.new)) source (planned plan)) }
+    ensures contents { F.contents files.new ≡ F.contents files.old }
+    ensures faults { NoneFell (F.faults files.old) (F.faults files.new) }
+{
+    match not_built(&source.tokens, &source.program) {
+        Some(at) => unbuilt_planned(alloc, at),
+        None => built_planned(alloc, source, manner, files),
+    }
+}
+
+/// The line for a source with something that isn't built.
+fn unbuilt_planned(alloc: Global, at: SourcePlace) -> Result<Planned, Memory>
+    ensures { IfOk result (λ plan. planned plan ≡ a_line 65 (fault_line (not_built_at at))) }
+{
+    let cause = SourceCause::NotBuilt;
+    refused(alloc, SourceFault { at, cause })
+}
+
+/// Runs a source that is built on nodes.
+fn built_planned<F: Files>(
+    alloc: Global,
+    source: Source,
+    manner: Manner,
+    files: &mut F,
+) -> Result<Planned, Memory>
+    requires built { None ≡ (if is_some (first_form source.tokens.tokens) then None else first_unbuilt source.tokens.tokens source.program) }
+    requires resolved { source.checked ≡ resolved_program source.program }
+    requires sound { IsChecked source.checked }
+    requires trace { IsUnrolled source.checked (Ok source.trace) }
+    requires some_nodes { 1 ≤ manner.nodes }
+    requires few_nodes { manner.nodes ≤ 16 }
+    ensures planned { IfOk result (λ plan. OnNodes manner (reading (F.contents files.old) (F.faults files.old) (F.faults files.new)) source (planned plan)) }
+    ensures contents { F.contents files.new ≡ F.contents files.old }
+    ensures faults { NoneFell (F.faults files.old) (F.faults files.new) }
+{
+    match first_program(alloc, source.tokens.tokens.as_slice())? {
+        Some(program) => first_planned(alloc, &program, manner.nodes),
+        None => played_planned(alloc, source, manner, files),
+    }
+}
+
+/// What an accepted source comes to.
+fn source_planned<F: Files>(
+    alloc: Global,
+    source: Source,
+    manner: Manner,
+    files: &mut F,
+) -> Result<Planned, Memory>
+    requires spelled { HasTokens source.program source.tokens.tokens }
+    requires resolved { source.checked ≡ resolved_program source.program }
+    requires sound { IsChecked source.checked }
+    requires shaped { AreShaped source.checked.sites }
+    requires trace { IsUnrolled source.checked (Ok source.trace) }
+    requires some_nodes { 1 ≤ manner.nodes }
+    requires few_nodes { manner.nodes ≤ 16 }
+    ensures planned { IfOk result (λ plan. ComesOf manner.plain manner (reading (F.contents files.old) (F.faults files.old) (F.faults files.new)) source (planned plan)) }
     ensures contents { F.contents files.new ≡ F.contents files.old }
     ensures faults { NoneFell (F.faults files.old) (F.faults files.new) }
 {
     if manner.plain {
-        plain_planned(alloc, source, files)
+        plain_planned(alloc, &source, files)
     } else {
-        first_planned(alloc, source, manner.nodes)
+        nodes_planned(alloc, source, manner, files)
     }
 }
 
@@ -190,12 +304,12 @@ pub(crate) fn text_planned<F: Files>(
     requires short { length text.now ≤ 1048576 }
     requires some_nodes { 1 ≤ manner.nodes }
     requires few_nodes { manner.nodes ≤ 16 }
-    ensures planned { IfOk result (λ plan. Comes manner.plain (F.contents files.old) (F.faults files.old) (F.faults files.new) text.now plan.status plan.text) }
+    ensures planned { IfOk result (λ plan. Comes manner (reading (F.contents files.old) (F.faults files.old) (F.faults files.new)) text.now (planned plan)) }
     ensures contents { F.contents files.new ≡ F.contents files.old }
     ensures faults { NoneFell (F.faults files.old) (F.faults files.new) }
 {
     match read_source(alloc, text) {
-        Ok(source) => source_planned(alloc, &source, manner, files),
+        Ok(source) => source_planned(alloc, source, manner, files),
         Err(stop) => stop_planned(alloc, stop),
     }
 }

@@ -1,4 +1,5 @@
 use crate::play_program;
+use bsp_core::Played;
 use fd_outside::{MemoryFiles, MemorySink};
 use fd_words::{Bytes, Memory, Numbers};
 use std::alloc::{AllocError, Global};
@@ -39,6 +40,13 @@ const BEYOND: &str =
 
 const PRINTS: &str =
     "PROGRAM B\nINTEGER*8 X(4), Y(4), IA(4)\nREAD X, IA\nOUTPUT Y\nPRINT X\nFORALL I = 1, 4\nREDUCE(ADD, Y(IA(I)), X(I))\nEND FORALL\nEND\n";
+
+/// Shows an array twice, and two at the end.
+const SHOWN: &str =
+    "PROGRAM ROW\nINTEGER*8 X(4), Y(1)\nREAD X\nOUTPUT Y, X\nDO K = 1, 2\nPRINT X\nEND DO\nEND\n";
+
+/// Writes one array of zeros.
+const ZEROS: &str = "PROGRAM G\nINTEGER*8 Y(4)\nOUTPUT Y\nEND\n";
 
 const COUNTS: &str =
     "PROGRAM COUNTS\nINTEGER*8 IA(8), H(5)\nREAD IA\nOUTPUT H\nFORALL I = 1, 8\nREDUCE(ADD, H(IA(I)), 1)\nEND FORALL\nEND\n";
@@ -109,7 +117,8 @@ fn comes(
 ) -> Result<(), Fail> {
     let words = words_of(alloc, texts)?;
     let mut out = MemorySink::new(alloc, 65536, 5, only(alloc, write_fails)?)?;
-    let ended = play_program(alloc, words.as_slice(), &mut files, &mut out);
+    let mut played = Played::new(alloc);
+    let ended = play_program(alloc, words.as_slice(), &mut files, &mut out, &mut played);
     assert_eq!(rt; ended, status);
     assert_eq!(rt; out.written(), written.as_bytes());
     Ok(())
@@ -157,7 +166,7 @@ fn calls(rt: HostRuntime) -> Result<(), Fail> {
             "",
             "",
             65,
-            "source: line 1, column 1: NotBuilt\n",
+            "source: line 5, column 1: NotBuilt\n",
         ),
         (
             plain.as_slice(),
@@ -239,6 +248,39 @@ fn calls(rt: HostRuntime) -> Result<(), Fail> {
             "3\n1\n4\n1\n5\n2\n2\n1\n",
             0,
             "H = 3 2 1 1 1\n",
+        ),
+        (
+            ["a.fd", "--nodes", "3"].as_slice(),
+            SHOWN,
+            "9\n8\n7\n6\n",
+            "",
+            0,
+            "X = 9 8 7 6\nX = 9 8 7 6\nY = 0\nX = 9 8 7 6\n",
+        ),
+        (
+            ["--turns", "2", "a.fd", "--nodes=16"].as_slice(),
+            SHOWN,
+            "9\n8\n7\n6\n",
+            "",
+            0,
+            "X = 9 8 7 6\nX = 9 8 7 6\nY = 0\nX = 9 8 7 6\n",
+        ),
+        (
+            alone.as_slice(),
+            SHOWN,
+            "9\n",
+            "",
+            66,
+            "data X: have 1, want 4\n",
+        ),
+        (alone.as_slice(), SHOWN, "", "", 69, "cannot read x.csv\n"),
+        (
+            ["a.fd", "--plain", "--turns", "2"].as_slice(),
+            SHOWN,
+            "",
+            "",
+            2,
+            USAGE,
         ),
         (
             ["--mesh", "0", "--size", "8", "--plain"].as_slice(),
@@ -398,7 +440,7 @@ fn sources(rt: HostRuntime) -> Result<(), Fail> {
         (
             "PROGRAM FIRST\nINTEGER*8 X(4)\nOUTPUT X\nFORALL I = 1, 4\nX(I) = 10*I\nENDFORALL\nEND\n",
             65,
-            "source: line 6, column 1: NotBuilt\n",
+            "source: line 4, column 1: NotBuilt\n",
         ),
         (
             OUTSIDE,
@@ -412,21 +454,27 @@ fn sources(rt: HostRuntime) -> Result<(), Fail> {
             "refused: line 8, iteration 0: subscript 0 of Z is outside 1 to 3\nZ = 0 19998 0\n",
         ),
         (MIXED, 65, "source: line 6, column 13: AssignAndReduce Y\n"),
-        (ADDS, 65, "source: line 1, column 1: NotBuilt\n"),
+        (ADDS, 65, "source: line 5, column 1: NotBuilt\n"),
+        (
+            "PROGRAM ROW\nINTEGER*8 X(4)\nDECOMPOSITION D(4)\nALIGN X(I) WITH D(I)\nDISTRIBUTE D(CYCLIC)\nEND\n",
+            65,
+            "source: line 4, column 1: NotBuilt\n",
+        ),
+        (
+            "PROGRAM ROW\nINTEGER*8 X(4)\nDISTRIBUTE X(CYCLIC)\nOUTPUT X\nEND\n",
+            65,
+            "source: line 3, column 1: NotBuilt\n",
+        ),
         (
             "PROGRAM ROW\nINTEGER*8 Y(1)\nOUTPUT Y\nDO K = 1, 10001\nPRINT Y\nEND DO\nEND\n",
             65,
             "source: line 4, column 1: TraceTooLong\n",
         ),
-        (cut(ADDS, 116), 65, "source: line 1, column 1: NotBuilt\n"),
+        (cut(ADDS, 116), 65, "source: line 5, column 1: NotBuilt\n"),
         (cut(ADDS, 113), 65, "source: line 8, column 1: NoEnd\n"),
         (cut(ADDS, 115), 65, "source: line 8, column 1: Unexpected\n"),
         (cut(ADDS, 109), 65, "source: line 7, column 5: Unexpected\n"),
-        (
-            "PROGRAM A234567890123456789012345678901\nEND\n",
-            65,
-            "source: line 1, column 1: NotBuilt\n",
-        ),
+        ("PROGRAM A234567890123456789012345678901\nEND\n", 0, ""),
         (
             "PROGRAM A2345678901234567890123456789012\nEND\n",
             65,
@@ -478,14 +526,15 @@ fn many_prints(rt: HostRuntime) -> Result<(), Fail> {
     let alloc = rt.alloc();
     let source = "PROGRAM ROW\nINTEGER*8 Y(1)\nOUTPUT Y\nDO K = 1, 10000\nPRINT Y\nEND DO\nEND\n";
     let written = repeated(alloc, "", "Y = 0\n", 10_001, "")?;
-    source_comes(
-        &rt,
-        alloc,
-        &["a.fd", "--plain"],
-        source,
-        0,
-        written.as_str(),
-    )
+    let manners = [
+        ["a.fd", "--plain"].as_slice(),
+        ["a.fd"].as_slice(),
+        ["a.fd", "--nodes=3", "--turns=7"].as_slice(),
+    ];
+    for words in manners.as_slice() {
+        source_comes(&rt, alloc, words, source, 0, written.as_str())?;
+    }
+    Ok(())
 }
 
 #[test]
@@ -558,5 +607,32 @@ fn long_sources(rt: HostRuntime) -> Result<(), Fail> {
         let source = repeated(rt.alloc(), before, piece, *times, after)?;
         source_comes(&rt, rt.alloc(), &["a.fd"], source.as_str(), 65, written)?;
     }
+    Ok(())
+}
+
+/// The turns of three nodes that write one array: each node but the first sends its elements and works, and then the
+/// first takes them in order. The turns don't change where the text is that of a refusal or of the first form.
+#[test]
+fn turns(rt: HostRuntime) -> Result<(), Fail> {
+    let alloc = rt.alloc();
+    let words = words_of(alloc, &["a.fd", "--nodes", "3"])?;
+    let mut files = files_of(alloc, ZEROS, "", "", None)?;
+    let mut out = MemorySink::new(alloc, 65536, 5, Numbers::new(alloc))?;
+    let mut played = Played::new(alloc);
+    let ended = play_program(alloc, words.as_slice(), &mut files, &mut out, &mut played);
+    assert_eq!(rt; ended, 0);
+    assert_eq!(rt; out.written(), b"Y = 0 0 0 0\n".as_slice());
+    assert_eq!(rt; played.moved.as_slice(), [1, 2, 0, 1, 2, 0, 0].as_slice());
+    assert_eq!(rt; played.sent.list(3).len(), 1);
+    assert_eq!(rt;
+        played.sent.list(3)[0].numbers.as_slice(),
+        [3, 0, 4, 0].as_slice()
+    );
+    assert_eq!(rt; played.sent.list(6).len(), 1);
+    assert!(rt; played.sent.list(6)[0].numbers.is_empty());
+    let mut first = files_of(alloc, FIRST, "", "", None)?;
+    let ended = play_program(alloc, words.as_slice(), &mut first, &mut out, &mut played);
+    assert_eq!(rt; ended, 0);
+    assert_eq!(rt; played.moved.len(), 7);
     Ok(())
 }

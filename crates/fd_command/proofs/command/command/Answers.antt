@@ -11,5 +11,6 @@ returns c =
     let one = c.in_ok-command.ensures ∙ ap (v (codes "nodes")) c.bare_command-command.ensures in
     let two = c.in_ok-command-2.ensures ∙ ap (v (codes "mesh")) one in
     let three = c.in_ok-command-3.ensures ∙ ap (v (codes "size")) two in
-    let four = c.in_ok-command-4.ensures ∙ ap (f (codes "plain")) three in
-    IfOk-weaker c.with_source.result _ _ (λ r h. h ∙ ap (λ (a : App). with_rule a source_rule) four) c.with_source.ensures
+    let four = c.in_ok-command-4.ensures ∙ ap (v (codes "turns")) three in
+    let five = c.in_ok-command-5.ensures ∙ ap (f (codes "plain")) four in
+    IfOk-weaker c.with_source.result _ _ (λ r h. h ∙ ap (λ (a : App). with_rule a source_rule) five) c.with_source.ensures

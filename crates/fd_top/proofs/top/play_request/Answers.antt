@@ -1,8 +1,8 @@
 use Rattle.std.proofs.Common.{sym, subst}
 use Rattle.fd_command.specs.Shown.{shown_origin}
 use Rattle.fd_command.specs.declared.request.Origin.{Origin}
-use Rattle.fd_top.specs.Outcomes.{FromOrigin}
-use Rattle.fd_top.specs.Answers.{EndsBy}
+use Rattle.fd_top.specs.Outcomes.{FromOrigin, reading}
+use Rattle.fd_top.specs.Answers.{EndsBy, left}
 use Rattle.fd_top.proofs.top.play_request.Goals as goal
 
 pub returns-in-Mesh-clause-ends : goal.returns-in-Mesh-clause-ends
@@ -10,6 +10,7 @@ returns-in-Mesh-clause-ends g c =
     let files = c.args.files.now in
     let out = c.args.out.now in
     let after = c.play_mesh.new.out in
-    subst (λ (o : Origin). EndsBy (FromOrigin (shown_origin o) c.args.request.now.plain (g.F.Files.contents files) (g.F.Files.faults files) (g.F.Files.faults files)) c.play_mesh.result
-    (g.S.Sink.faults out) (g.S.Sink.faults after) (g.S.Sink.written out) (g.S.Sink.written after)) (sym c.in-Mesh.is)
-    (c.play_mesh.ensures.ends (g.F.Files.contents files) (g.F.Files.faults files) (g.F.Files.faults files))
+    let r = reading (g.F.Files.contents files) (g.F.Files.faults files) (g.F.Files.faults files) in
+    subst (λ (o : Origin). EndsBy (FromOrigin (shown_origin o) c.args.request.now.manner r) c.play_mesh.result
+    (left (g.S.Sink.faults out) (g.S.Sink.written out) c.args.played.now) (left (g.S.Sink.faults after) (g.S.Sink.written after) c.play_mesh.new.played)) (sym c.in-Mesh.is)
+    (c.play_mesh.ensures.ends r)

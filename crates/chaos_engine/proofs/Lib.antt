@@ -1,0 +1,3 @@
+mod Blocked
+pub mod Begun
+pub mod Over

@@ -1,0 +1,4 @@
+pub mod Walks
+pub mod Ascending
+pub mod Blocked
+pub mod Ended

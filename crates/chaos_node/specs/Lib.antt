@@ -1,0 +1,17 @@
+pub mod State
+pub mod Kept
+pub mod Letters
+pub mod Places
+pub mod Printing
+pub mod Entering
+pub mod Starting
+pub mod Plans
+pub mod PlaceLaws
+pub mod PrintRuns
+pub mod OwnRows
+pub mod Filling
+pub mod Beginning
+pub mod Working
+pub mod Started
+pub mod EndLaws
+pub mod AtLaws
