@@ -1,5 +1,5 @@
 -- Ways of ending, one within another.
-use Rattle.std.proofs.Common.{◌≡◌, ℕ, ◌<◌, ◌≤◌, ◌⊎◌, Bool, true, false, List, length, refl, ap, sym, ◌∙◌, subst, inl, inr, arith}
+use Rattle.std.proofs.Common.{◌≡◌, ℕ, ◌<◌, ◌≤◌, Bool, true, false, List, length, refl, ap, sym, ◌∙◌, subst, inl, inr, arith}
 use Rattle.std.specs.Prelude.{ℤ, Option, Some, None, IfSome, IfOk, Ok, Err, Result, if◌then◌else◌, is_some}
 use Rattle.fd_outside.specs.Causes.{Rose, NoneFell}
 use Rattle.fd_program.specs.declared.checked.Checked.{Checked}
@@ -21,8 +21,8 @@ use Rattle.fd_top.specs.Made.{told_by}
 use Rattle.fd_mesh.specs.Source.{source_of}
 use Rattle.fd_mesh.specs.Mesh.{files_of}
 use Rattle.fd_mesh.specs.declared.files.FileData.{FileData}
-use Rattle.fd_top.specs.Outcomes.{Told, Counts, Reading, reading, Outcome, a_line, OverData, unread_file, faulty_file, ran, OnNodes, ran_first, unbuilt, ran_turns, RunsInTurns, ComesOf, Comes, refused, accepted, FromOrigin, source, unread, status_of_run}
-use Rattle.fd_top.specs.Answers.{Left, Ends, EndsBy, IsWritten, IsWanting, left}
+use Rattle.fd_top.specs.Outcomes.{Told, Counts, Reading, reading, Outcome, a_line, OverData, unread_file, faulty_file, ran, OnNodes, ran_first, unbuilt, ran_turns, ComesOf, Comes, refused, accepted, FromOrigin, source, status_of_run}
+use Rattle.fd_top.specs.Answers.{Left, Ends, EndsBy, IsWritten, left}
 
 pub ends_more : (P Q : Outcome → Type 0) (result : ℕ) (old new : Left) → ((o : Outcome) → P o → Q o) → EndsBy P result old new → EndsBy Q result old new
 ends_more P Q result old new more (inl e) = inl (e.0, (more e.0 e.1.0, e.1.1))

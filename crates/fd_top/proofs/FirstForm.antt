@@ -1,5 +1,5 @@
 -- Tokens that stop being the beginning of a source of the first form are none.
-use Rattle.std.proofs.Common.{◌≡◌, List, [], ◌∷◌, ◌++◌, ap, sym, ◌∙◌, refl, append_assoc, true, Bool}
+use Rattle.std.proofs.Common.{◌≡◌, List, [], ◌∷◌, ap, sym, ◌∙◌, refl, append_assoc, true}
 use Rattle.std.specs.Prelude.{Option, Some, None, IsSomeAnd, is_some, if◌then◌else◌}
 use Rattle.fd_words.specs.declared.source.SourcePlace.{SourcePlace}
 use Rattle.fd_lexer.specs.declared.token.Token.{Token}

@@ -1,12 +1,12 @@
 -- The store that data files give has a list for each array, of its extent.
 use Rattle.std.proofs.Common.{◌≡◌, ℕ, Bool, true, false, List, [], ◌∷◌, length, refl, ap, sym, ◌∙◌, eqb-true}
-use Rattle.std.specs.Prelude.{ℤ, Option, Result, Ok, Err, zip, if◌then◌else◌, ◌==◌}
+use Rattle.std.specs.Prelude.{ℤ, Result, Ok, Err, zip, if◌then◌else◌, ◌==◌}
 use Rattle.chaos_dist.specs.Homes.{natural}
-use Rattle.fd_data.specs.Data.{data_of, counted}
+use Rattle.fd_data.specs.Data.{counted}
 use Rattle.fd_data.specs.declared.read.DataFault.{DataFault}
 use Rattle.fd_data.specs.declared.read.DataFault.TheVariants as fault
 use Rattle.fd_load.specs.Loads.{AllRead, IsLoaded}
-use Rattle.fd_program.specs.Stores.{array_at, FitsStore, initial_store}
+use Rattle.fd_program.specs.Stores.{array_at, FitsStore}
 use Rattle.fd_program.specs.StoreLaws.{FitFiles, initial_store_fits}
 use Rattle.fd_program.specs.declared.array.ArrayFacts.{ArrayFacts}
 use Rattle.fd_program.specs.declared.checked.Checked.{Checked}

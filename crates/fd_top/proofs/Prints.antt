@@ -1,5 +1,5 @@
 -- A program without DISTRIBUTE and FORALL has no steps but PRINTs.
-use Rattle.std.proofs.Common.{◌≡◌, ℕ, zero, suc, Bool, true, false, List, [], ◌∷◌, ◌++◌, length, refl, ap, sym, ◌∙◌, subst}
+use Rattle.std.proofs.Common.{◌≡◌, ℕ, zero, suc, Bool, true, false, List, [], ◌∷◌, ◌++◌, length, refl, sym, subst}
 use Rattle.std.specs.Prelude.{ℤ, Option, Some, None, fold, filter_map, flat_map, ◌-◌, if◌then◌else◌}
 use Rattle.fd_words.specs.declared.source.SourcePlace.{SourcePlace}
 use Rattle.fd_lexer.specs.declared.token.Token.{Token}
@@ -8,7 +8,7 @@ use Rattle.fd_syntax.specs.declared.statement.Statement.{Statement}
 use Rattle.fd_syntax.specs.declared.statement.Statement.TheVariants.{Distribute, Print, Do, Forall}
 use Rattle.fd_program.specs.Loops.{first_of, range_of}
 use Rattle.fd_program.specs.Scalars.{scalar_value}
-use Rattle.fd_program.specs.Trace.{inside_of, steps_of, steps_of_statement, steps_of_turns, trace_of}
+use Rattle.fd_program.specs.Trace.{inside_of, steps_of, steps_of_statement, trace_of}
 use Rattle.fd_program.specs.declared.checked.Checked.{Checked}
 use Rattle.fd_program.specs.declared.checked.CheckedStatement.{CheckedStatement}
 use Rattle.fd_program.specs.declared.checked.CheckedStatement.TheVariants as checked
@@ -18,9 +18,9 @@ use Rattle.fd_program.specs.declared.trace.Step.TheVariants as move
 use Rattle.fd_scope.specs.declared.head.Head.{Head}
 use Rattle.fd_scope.specs.Heads.{head_of}
 use Rattle.fd_checks.specs.declared.walk.Walk.{Walk}
-use Rattle.fd_checks.specs.Walks.{after_statement, past_open, resolved_program, start, step, walked}
+use Rattle.fd_checks.specs.Walks.{resolved_program, start, step}
 use Rattle.chaos_node.specs.Plans.{ArePrints}
-use Rattle.fd_top.specs.Built.{align_place, earlier, first_unbuilt, moving_place}
+use Rattle.fd_top.specs.Built.{earlier, first_unbuilt, moving_place}
 
 -- ---- steps
 

@@ -3,7 +3,6 @@ use Rattle.std.specs.Prelude.{ℕ, ℤ, ◌≡◌, ◌⊎◌, Bool, true, false,
 use Rattle.bsp_core.specs.declared.played.Played.{Played}
 use Rattle.fd_outside.specs.Causes.{Rose, appended, WrittenInPart}
 use Rattle.fd_program.specs.Stores.{array_at}
-use Rattle.fd_program.specs.Runs.{run_of}
 use Rattle.fd_command.specs.Asked.{Asked, asked, file}
 use Rattle.fd_command.specs.declared.request.Manner.{Manner}
 use Rattle.fd_front.specs.Sources.{IsSource}
