@@ -8,8 +8,6 @@
 mod regular;
 mod shape;
 mod step_form;
-#[cfg(test)]
-mod tests;
 
 pub use regular::{Regular, layout_laws};
 pub use shape::Shape;

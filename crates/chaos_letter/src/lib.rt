@@ -5,8 +5,6 @@ mod kind;
 mod letter;
 mod letter_lists;
 mod letters;
-#[cfg(test)]
-mod tests;
 mod wanted;
 
 pub use kind::Kind;

@@ -9,8 +9,6 @@ mod operators;
 mod outgoing;
 mod place;
 mod rows;
-#[cfg(test)]
-mod tests;
 
 pub use apply::apply_combined;
 pub use incoming::unpack;

@@ -5,9 +5,6 @@ ghost use Rattle.std.specs.Prelude.{◌≡◌};
 ghost use Rattle.std.specs.FinMap.{IsAntisymmetric};
 ghost use Rattle.chaos_order.specs.Order.{ascending};
 
-#[cfg(test)]
-mod tests;
-
 /// Puts a list in ascending order, each item once. It takes no memory.
 pub fn ascend<T: Ord + Drop>(list: &mut Vec<T>)
     requires { IsAntisymmetric T.cmp }

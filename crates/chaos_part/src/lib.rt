@@ -3,8 +3,6 @@
 
 mod home;
 mod provisional;
-#[cfg(test)]
-mod tests;
 
 pub use home::{home_by_most, home_by_owner};
 pub use provisional::provisional_home;

@@ -7,8 +7,6 @@ mod pack;
 mod place;
 mod plan;
 mod rows;
-#[cfg(test)]
-mod tests;
 
 pub use laws::remap_laws;
 pub use pack::pack_remap;

@@ -12,8 +12,6 @@ mod need;
 mod needed;
 mod prepared;
 mod schedule;
-#[cfg(test)]
-mod tests;
 
 pub use asks::asks_of;
 pub use item::{Item, ItemLists, Items};

@@ -4,8 +4,6 @@
 
 mod letter;
 mod order;
-#[cfg(test)]
-mod tests;
 
 pub use letter::{numbers_of, offence_of, vote_laws};
 pub use order::least;

@@ -7,7 +7,5 @@
 mod command;
 mod number;
 mod request;
-#[cfg(test)]
-mod tests;
 
 pub use request::{Manner, Origin, Refused, Request, Turns, requested};

@@ -4,8 +4,6 @@
 
 mod line;
 mod source;
-#[cfg(test)]
-mod tests;
 
 pub use line::fault_line;
 pub use source::{Source, read_source};

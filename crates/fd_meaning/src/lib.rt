@@ -8,8 +8,6 @@ mod offences;
 mod range;
 mod run;
 mod step;
-#[cfg(test)]
-mod tests;
 mod uses;
 mod values;
 

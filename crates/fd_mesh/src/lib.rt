@@ -6,8 +6,6 @@ mod generator;
 mod laws;
 mod rule;
 mod source;
-#[cfg(test)]
-mod tests;
 
 pub use files::{FileData, FileList};
 pub use generator::{MeshFiles, mesh};

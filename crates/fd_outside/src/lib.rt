@@ -6,8 +6,6 @@ mod gate;
 mod host;
 mod memory;
 mod sink;
-#[cfg(test)]
-mod tests;
 mod whole;
 mod within;
 

@@ -5,8 +5,6 @@
 mod append;
 mod refusal;
 mod report;
-#[cfg(test)]
-mod tests;
 
 pub use refusal::refusal_line;
 pub use report::report_of;

@@ -5,8 +5,6 @@ mod built;
 mod end;
 mod made;
 mod planned;
-#[cfg(test)]
-mod tests;
 mod top;
 
 pub use built::not_built;

@@ -9,8 +9,6 @@ mod number_lists;
 mod numbers;
 mod place;
 mod source;
-#[cfg(test)]
-mod tests;
 mod value;
 mod wanting;
 

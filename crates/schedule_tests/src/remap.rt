@@ -1,4 +1,4 @@
-use crate::*;
+use chaos_remap::*;
 use fd_words::{NumberLists, Numbers, Place, Places};
 use std::alloc::Global;
 use std::process::Abort;

@@ -1,4 +1,4 @@
-use crate::*;
+use chaos_vote::*;
 use fd_words::{Numbers, Offence};
 use std::test::Fail;
 

@@ -1,6 +1,6 @@
-use crate::play_program;
 use bsp_core::Played;
 use fd_outside::{MemoryFiles, MemorySink};
+use fd_top::play_program;
 use fd_words::{Bytes, Memory, Numbers};
 use std::alloc::{AllocError, Global};
 use std::process::Abort;

@@ -1,5 +1,5 @@
-use crate::*;
 use fd_program::*;
+use fd_report::*;
 use fd_words::{Name, Numbers, Offence, Role, SourcePlace};
 use std::test::Fail;
 

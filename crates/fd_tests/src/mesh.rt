@@ -1,4 +1,4 @@
-use crate::*;
+use fd_mesh::*;
 use std::test::Fail;
 
 #[test]

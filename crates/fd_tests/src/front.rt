@@ -1,4 +1,4 @@
-use crate::{fault_line, read_source};
+use fd_front::{fault_line, read_source};
 use fd_words::{Bytes, Memory, SourceStop};
 use itoa::Buffer;
 use std::alloc::{AllocError, Global};

@@ -1,6 +1,6 @@
 ghost use Rattle.std.specs.Prelude.{◌<◌, ◌^◌, All, IfOk};
 
-use crate::*;
+use chaos_sched::*;
 use fd_words::{NumberLists, Numbers, Place, Role};
 use std::alloc::Global;
 use std::process::Abort;

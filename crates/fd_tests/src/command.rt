@@ -1,4 +1,4 @@
-use crate::{Manner, Origin, Refused, Request, Turns, requested};
+use fd_command::{Manner, Origin, Refused, Request, Turns, requested};
 use std::alloc::{AllocError, Global};
 use std::process::Abort;
 use std::test::Fail;

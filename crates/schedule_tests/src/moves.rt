@@ -1,6 +1,6 @@
 ghost use Rattle.std.specs.Prelude.{◌≡◌, IfOk};
 
-use crate::*;
+use chaos_move::*;
 use chaos_sched::{Item, Items};
 use fd_words::{Combine, NumberLists, Numbers};
 use std::alloc::Global;

@@ -1,4 +1,4 @@
-use crate::*;
+use chaos_letter::*;
 use fd_words::{Memory, Numbers};
 use std::alloc::Global;
 use std::test::Fail;

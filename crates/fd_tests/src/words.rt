@@ -1,4 +1,4 @@
-use crate::*;
+use fd_words::*;
 use std::test::Fail;
 
 #[test]

@@ -1,4 +1,4 @@
-use crate::*;
+use fd_data::*;
 use fd_words::{Name, Numbers};
 use std::test::Fail;
 

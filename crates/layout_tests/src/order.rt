@@ -1,4 +1,4 @@
-use crate::*;
+use chaos_order::*;
 use std::test::Fail;
 
 #[test]

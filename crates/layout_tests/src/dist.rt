@@ -1,6 +1,6 @@
 ghost use Rattle.std.specs.Prelude.{◌≤◌};
 
-use crate::*;
+use chaos_dist::*;
 use std::process::Abort;
 
 fn stands(rt: &impl Abort, layout: Regular, g: u64, owner: u32, local: u64)

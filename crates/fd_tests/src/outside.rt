@@ -1,4 +1,4 @@
-use crate::*;
+use fd_outside::*;
 use fd_words::{Bytes, Memory, Numbers};
 use std::alloc::Global;
 use std::fs;

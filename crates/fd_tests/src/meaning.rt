@@ -1,7 +1,7 @@
 ghost use Rattle.std.specs.Prelude.{◌≡◌, ◌≤◌, length, All, IfOk};
 ghost use Rattle.fd_program.specs.declared.site.Site.{Site as ASite};
 
-use crate::{PlainEnd, run_plain};
+use fd_meaning::{PlainEnd, run_plain};
 use fd_program::{
     ArrayFacts, ArrayList, Checked, CheckedBody, CheckedBodyList, CheckedExpr, CheckedScalar,
     CheckedScalars, CheckedStatements, CheckedSubscript, CheckedTerms, LayoutNames, LoopTurn,

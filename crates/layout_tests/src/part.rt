@@ -1,4 +1,4 @@
-use crate::*;
+use chaos_part::*;
 use fd_words::Place;
 
 #[test]
