@@ -27,7 +27,8 @@ use Rattle.fd_program.specs.declared.checked.Checked.{Checked}
 use Rattle.fd_program.specs.declared.count.SiteCount.{SiteCount}
 use Rattle.fd_program.specs.declared.trace.Step.{Step}
 use Rattle.fd_program.specs.declared.trace.Step.TheVariants.{Distribute, Print, Forall}
-use Rattle.chaos_run.specs.Held.{At, AtEnd, AtLeft, AtPhase, Held, HasPage, HasPlaces, Kept, KeepsAtEnd, KeepsInStep, KeepsLatest, KeepsLoop, Stands, elements_of, entry_at, inspected_at, is_stopped, lines_of, no_hand, refused_at, text_at, text_on, whole_text}
+use Rattle.chaos_run.specs.declared.kept.Kept.{Kept}
+use Rattle.chaos_run.specs.Held.{At, AtEnd, AtLeft, AtPhase, Held, HasPage, HasPlaces, KeepsAtEnd, KeepsInStep, KeepsLatest, KeepsLoop, Stands, elements_of, entry_at, inspected_at, is_stopped, lines_of, no_hand, refused_at, text_at, text_on, whole_text}
 use Rattle.chaos_run.specs.Phases.{Phase, output_phases, phases_from}
 use Rattle.chaos_run.specs.Rows.{RunPlan, phases_in, run_in, scene_in}
 use Rattle.chaos_run.specs.declared.stage.Stage.{Stage}

@@ -7,8 +7,6 @@ mod laws;
 mod record;
 mod records;
 mod setting;
-#[cfg(test)]
-mod tests;
 
 pub use compare::must_inspect;
 pub use fd_program::LoopRecord;

@@ -63,6 +63,31 @@ impl Records {
         true
     }
 
+    /// The form that a decomposition has now, BLOCK where there is no such decomposition.
+    pub fn form(&self, decomposition: u32) -> StepForm
+        ensures { result ≡ (setting_in self.now decomposition).form }
+    {
+        self.setting(decomposition).form
+    }
+
+    /// Whether a decomposition has this form now, and if it is by a map, no change of its array was noted
+    /// since it was given.
+    pub fn is_repeat(&self, decomposition: u32, form: StepForm) -> bool
+        ensures { result ≡ is_repeated self.now decomposition form }
+    {
+        self.setting(decomposition).is(form, self.change_for(form))
+    }
+
+    /// Equal records.
+    pub fn copy(&self, alloc: Global) -> Result<Records, Memory>
+        ensures { IfOk result (λ r. r ≡ self.now) }
+    {
+        Ok(Records {
+            changes: self.changes.copy(alloc)?,
+            settings: Items::from_slice(alloc, self.settings.as_slice())?,
+        })
+    }
+
     /// How many arrays there are.
     pub fn arrays(&self) -> u64
         ensures { result ≡ length self.now.changes }

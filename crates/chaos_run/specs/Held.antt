@@ -45,6 +45,7 @@ pub use Rattle.chaos_deref.specs.Laws.{place_in}
 pub use Rattle.chaos_prepare.specs.Tables.{no_table, entry_at, HasPlaces}
 use Rattle.chaos_prepare.specs.Tables.{slots_of, IsEntered}
 use Rattle.chaos_run.specs.Phases.{Phase, phases_of, numbers_at}
+pub use Rattle.chaos_run.specs.declared.kept.Kept.{Kept}
 use Rattle.chaos_run.specs.declared.stage.Stage.{Stage}
 use Rattle.chaos_run.specs.declared.stage.Stage.TheVariants as stage
 
@@ -61,11 +62,6 @@ HasPage nodes p (Regular shape) owners page = page ≡ None
 HasPage nodes p (Map array) owners page = IsSomeAnd page (IsPageOf nodes p owners)
 
 -- ---- what is held
-
--- what is kept of a FORALL: its latest record, and its inspection unless that was given up
-pub record Kept : Type 0 where
-  pub latest : LoopRecord
-  pub prepared : Option Prepared
 
 -- What the earlier phases of a step gave, as far as the present one needs it: of a DISTRIBUTE the pairs of elements and owners that
 -- were taken, by sender, and the new page; of an inspection the elements whose places are asked for, each with its decomposition, and

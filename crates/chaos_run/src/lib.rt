@@ -3,9 +3,11 @@
 //! the run, and what follows from them.
 #![tactic(auto)]
 
+mod kept;
 mod laws;
 mod stage;
 
+pub use kept::Kept;
 pub use laws::{
     inspections_go_on, last_is_reached, left_is_small, letters_are_measured, move_changes_one,
     others_stay_prepared, owners_stay, print_keeps_loops, print_leaves_store, print_stands,
