@@ -14,5 +14,5 @@ module _ (x : Inspection) (owners : List (List ℕ)) (store : List (List ℤ)) (
   pub owed_at : (lists : List (List ℤ)) → IsOwed x owners store lists → IfSome (phase_of stage) (λ l. lists ≡ owed_in x.facts owners store l x.me)
   owed_at lists h = subst (λ s. IfSome (phase_of s) (λ l. lists ≡ owed_in x.facts owners store l x.me)) at h
 
-  pub hand_at : (tables : List Stamps) → IsInspecting x owners store tables → InHand x.facts owners store tables x.me x.values stage
-  hand_at tables h = subst (InHand x.facts owners store tables x.me x.values) at h.hand
+  pub hand_at : (tables : List Stamps) → IsInspecting x owners store tables → InHand x owners store tables stage
+  hand_at tables h = subst (InHand x owners store tables) at h.hand

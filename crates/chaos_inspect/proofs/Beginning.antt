@@ -1,17 +1,26 @@
--- Where an inspection begins, and where the votes lead.
-use Rattle.std.proofs.Common.{◌≡◌, ℕ, ◌+◌, ℤ, Bool, true, false, cond, List, [], ◌∷◌, ◌++◌, Option, Some, None, refl, ap, sym, ◌∙◌}
+-- Where an inspection begins.
+use Rattle.std.proofs.Common.{◌≡◌, ℕ, ◌+◌, ℤ, Bool, true, false, cond, List, [], ◌∷◌, ◌++◌, map, filter, Option, Some, None, refl, ap, sym, subst, ◌∙◌}
 use Rattle.std.specs.Prelude.{◌&&◌, ◌||◌}
 use Rattle.std.specs.List.{flat_map, list_any, cons_option}
 use Rattle.fd_program.specs.Homes.{inspected_by}
-use Rattle.fd_words.specs.declared.place.Offence.{Offence}
-use Rattle.fd_program.specs.Loops.{offence_of}
 use Rattle.fd_program.specs.Stores.{number_at}
 use Rattle.fd_program.specs.Uses.{index_value, index_values, is_index, is_met, read_of, subscript_of, use_of, uses_from}
 use Rattle.fd_program.specs.declared.loop_facts.LoopFacts.{LoopFacts}
 use Rattle.fd_program.specs.declared.reference.Reference.{Reference}
+use Rattle.chaos_asking.specs.Asks.{IsAsked}
+use Rattle.chaos_asking.specs.declared.asked.Asked.{Asked}
 use Rattle.chaos_hash.specs.Stamps.{Stamps}
+use Rattle.chaos_phases.specs.LoopLetters.{asks_places}
+use Rattle.chaos_phases.specs.declared.loop_phase.Asking.TheVariants.{Indexes}
+use Rattle.chaos_reach.specs.Accepted.{AreOwners, IsAccepted}
+use Rattle.chaos_reach.specs.Reached.{place_met}
 use Rattle.chaos_reach.specs.ReachedLaws.{values_at}
-use Rattle.chaos_inspect.specs.Inspecting.{InHand, first_stage, stage_after, values_of}
+use Rattle.chaos_inspect.specs.Inspecting.{InHand, first_phase, first_stage, has_indexes, phase_first, phase_of}
+use Rattle.chaos_inspect.specs.Walking.{is_asked, spots_told, uses_through, uses_without}
+use Rattle.chaos_inspect.specs.declared.inspection.Inspection.{Inspection}
+use Rattle.chaos_inspect.specs.declared.stage.Stage.{Stage}
+use Rattle.chaos_inspect.proofs.Rounds.{none_asked}
+use Rattle.chaos_inspect.proofs.Standing.{indexes_wanted, spots_right}
 
 neither : (a b : Bool) → (a || b) ≡ false → (a ≡ false) × (b ≡ false)
 neither true b e = cc
@@ -32,12 +41,40 @@ no_values : (f : LoopFacts) (store : List (List ℤ)) → list_any (λ (r : Refe
 no_values f store none [] = refl
 no_values f store none (i ∷ is) = ap (λ l. l ++ flat_map (values_at f store) is) (none_given f store i 0 None f.site.references none) ∙ no_values f store none is
 
-pub hand_first : (f : LoopFacts) (owners : List (List ℕ)) (store : List (List ℤ)) (tables : List Stamps) (p : ℕ) (values : List ℤ) (b : Bool) → list_any (λ (r : Reference). is_index r.role) f.site.references ≡ b
-    → values ≡ [] → InHand f owners store tables p values (first_stage b)
-hand_first f owners store tables p values true e empty = tt
-hand_first f owners store tables p values false e empty = empty ∙ sym (no_values f store e (inspected_by f p))
+-- what is asked for at these iterations
+abbrev pub Begun : LoopFacts → Asked → List ℤ → Type 0
+Begun f asked is = IsAsked f (filter (is_asked f Indexes) (uses_through f is [])) asked
 
-pub hand_after : (f : LoopFacts) (owners : List (List ℕ)) (store : List (List ℤ)) (tables : List Stamps) (p : ℕ) (values : List ℤ) (vote : Option Offence) → values ≡ values_of f store p
-    → vote ≡ offence_of f.arrays f.site f.turn store → InHand f owners store tables p values (stage_after vote)
-hand_after f owners store tables p values None fetched e = (fetched, sym e)
-hand_after f owners store tables p values (Some offence) fetched e = sym e
+-- what is in hand then
+pub record Begins (x : Inspection) (seeks has : Bool) : Type 0 where
+  pub accepted : IsAccepted x.facts
+  pub mine : x.mine ≡ inspected_by x.facts x.me
+  pub asks : asks_places x.facts Indexes ≡ seeks
+  pub indexes : has_indexes x.facts ≡ has
+  pub values : x.values ≡ []
+  pub asked : seeks ≡ true → Begun x.facts x.asked x.mine
+  pub spots : seeks ≡ false → x.spots ≡ spots_told x.facts Indexes [] (uses_without x.facts x.mine)
+
+pub hand_first : (x : Inspection) (owners : List (List ℕ)) (store : List (List ℤ)) (tables : List Stamps) (seeks has : Bool) → AreOwners x.facts owners → Begins x seeks has
+    → InHand x owners store tables (first_stage seeks has)
+hand_first x owners store tables true has owned h = (
+  subst (λ us. IsAsked x.facts us x.asked)
+      (ap (λ is. filter (is_asked x.facts Indexes) (uses_through x.facts is [])) h.mine ∙ indexes_wanted x.facts owners store x.me h.accepted) (h.asked refl),
+  tt,
+)
+hand_first x owners store tables false true owned h =
+    h.spots refl
+    ∙ ap (λ is. spots_told x.facts Indexes [] (uses_without x.facts is)) h.mine
+    ∙ ap (λ us. spots_told x.facts Indexes (map (place_met x.facts owners) us) (uses_without x.facts (inspected_by x.facts x.me))) (sym (none_asked x.facts Indexes store (inspected_by x.facts x.me) h.asks))
+    ∙ spots_right x.facts owners store x.me h.accepted owned
+hand_first x owners store tables false false owned h = h.values ∙ sym (no_values x.facts store h.indexes (inspected_by x.facts x.me))
+
+pub phase_begun : (f : LoopFacts) (stage : Stage) (seeks has : Bool) → stage ≡ first_stage seeks has → seeks ≡ asks_places f Indexes → has ≡ has_indexes f
+    → phase_of stage ≡ Some (first_phase f)
+phase_begun f stage seeks has begun asks indexes =
+    ap phase_of begun ∙ by seeks has ∙ ap (λ b. Some (phase_first b has)) asks ∙ ap (λ b. Some (phase_first (asks_places f Indexes) b)) indexes
+  where
+    by : (a b : Bool) → phase_of (first_stage a b) ≡ Some (phase_first a b)
+    by true b = refl
+    by false true = refl
+    by false false = refl

@@ -31,7 +31,7 @@ use Rattle.chaos_reach.specs.PlaceLaws.{each_is_owned}
 use Rattle.chaos_reach.specs.Standing.{standing, natural_bounds}
 use Rattle.chaos_inspect.specs.Dealing.{deals, draws}
 use Rattle.chaos_inspect.specs.Walking.{piece_value, piece_values, spot_ask}
-use Rattle.chaos_inspect.specs.Inspecting.{spot_met, values_of}
+use Rattle.chaos_inspect.specs.Met.{spot_met, values_of}
 use Rattle.chaos_inspect.specs.declared.spot.Spot.{Spot}
 use Rattle.chaos_inspect.proofs.Deals.{drawn_right, AreLeft}
 use Rattle.chaos_inspect.proofs.Walks.{given_all}

@@ -1,41 +1,52 @@
 -- Iterations go to their homes, and come in order.
-use Rattle.std.proofs.Common.{◌≡◌, ℕ, zero, suc, ◌+◌, ◌-◌, ◌<◌, ◌≤◌, ℤ, Bool, true, false, ◌==◌, cond, List, [], ◌∷◌, ◌++◌, length, map, filter, drop, take, Option, Some, None, refl, ap, sym, ◌∙◌, arith, append_assoc, append-nil}
+use Rattle.std.proofs.Common.{◌≡◌, ◌≢◌, ℕ, zero, suc, ◌+◌, ◌-◌, ◌<◌, ◌≤◌, ℤ, Bool, true, false, ◌==◌, cond, List, [], ◌∷◌, ◌++◌, length, map, filter, drop, take, Option, Some, None, refl, ap, sym, ◌∙◌, arith, append_assoc, append-nil}
 use Rattle.std.specs.Prelude.{count_by, slice_get, unwrap_or, ◌&&◌, IsSomeAnd, All}
 use Rattle.std.specs.List.{flat_map, cons_option, AllByRecursion}
 use Rattle.std.proofs.lemmas.Bool.Decides.{nat_tests}
 use Rattle.std.proofs.lemmas.Option.{slice_get_within}
-use Rattle.std.proofs.lemmas.List.{take_at}
+use Rattle.std.proofs.lemmas.List.{map-append, take_at}
+use Rattle.std.proofs.lemmas.List.Elements.{filter-append}
 use Rattle.std.proofs.lemmas.List.Folds.{flat_map-map}
 use Rattle.std.proofs.lemmas.List.Sums.{sum_by-cons}
+use Rattle.fd_words.specs.declared.place.Place.{Place}
 use Rattle.fd_words.specs.declared.place.Role.TheVariants.{Target}
 use Rattle.chaos_dist.specs.Counting.{below}
 use Rattle.chaos_order.specs.Dealt.{map-range-same}
 use Rattle.fd_program.specs.Checks.{HasRole, IsSite, IsStatement}
 use Rattle.fd_program.specs.Homes.{executed_by, first_target, home_by, home_of, inspected_by, looked_at, owner_met, provisional_home, uses_at}
-use Rattle.fd_program.specs.ListLaws.{all_at, all_both, all_filter, all_weaker}
+use Rattle.fd_program.specs.ListLaws.{all_filter, all_weaker}
 use Rattle.fd_program.specs.Loops.{iterations_of, offence_of, target_of}
 use Rattle.fd_program.specs.Stores.{number_at}
 use Rattle.fd_program.specs.Uses.{gives_index, index_value, index_values, is_index, is_met, no_use, read_of, subscript_of, use_at, use_of, uses_from}
 use Rattle.fd_program.specs.VoteLaws.{executed_in_order, flat_map_parts}
+use Rattle.fd_program.specs.declared.array.ArrayFacts.{ArrayFacts}
 use Rattle.fd_program.specs.declared.body.CheckedBody.{CheckedBody}
 use Rattle.fd_program.specs.declared.loop_facts.HomeRule.{HomeRule}
 use Rattle.fd_program.specs.declared.loop_facts.HomeRule.TheVariants.{Owner, Most}
 use Rattle.fd_program.specs.declared.loop_facts.LoopFacts.{LoopFacts}
 use Rattle.fd_program.specs.declared.loop_use.Use.{Use}
 use Rattle.fd_program.specs.declared.reference.Reference.{Reference}
-use Rattle.chaos_phases.specs.LoopLetters.{asks_places, is_for, iteration_row, numbers_in_loop, owed_in, sent_in}
+use Rattle.chaos_phases.specs.LoopLetters.{is_looked_at, iteration_row, numbers_in_loop, owed_in, sent_in}
 use Rattle.chaos_phases.specs.declared.loop_phase.Asking.TheVariants.{Homes}
 use Rattle.chaos_phases.specs.declared.loop_phase.LoopPhase.TheVariants.{Iterations}
 use Rattle.chaos_reach.specs.Accepted.{AreOwners, IsAccepted}
+use Rattle.chaos_reach.specs.Reached.{place_met}
 use Rattle.chaos_reach.specs.ReachedLaws.{values_at, uses_are_reached, values_are_behind}
 use Rattle.chaos_inspect.specs.Dealing.{deals}
-use Rattle.chaos_inspect.specs.Walking.{Homed, home_told, homed_through, owner_told, place_told}
-use Rattle.chaos_inspect.specs.Inspecting.{values_of}
-use Rattle.chaos_inspect.proofs.Regular.{HasFormula, formula_at, told_right}
+use Rattle.chaos_inspect.specs.Walking.{Homed, home_told, homed_through, is_asked, is_reached, uses_through}
+use Rattle.chaos_asking.specs.Laws.{uses_wanted}
+use Rattle.chaos_inspect.specs.Met.{places_asked, spot_met, values_of}
+use Rattle.chaos_inspect.specs.declared.spot.Spot.{Spot}
+use Rattle.chaos_inspect.proofs.Fetching.{map_map_same}
 use Rattle.chaos_inspect.proofs.Sound.{AllMet, all_met}
+use Rattle.chaos_inspect.proofs.Turns.{in_turn, places_behind}
+use Rattle.chaos_inspect.proofs.Walks.{through_all}
 
 same_number : (m : ℕ) → (m == m) ≡ true
 same_number m = grind (arith, nat_tests)
+
+other_number : (k p : ℕ) → k ≢ p → (k == p) ≡ false
+other_number k p h = grind (arith, nat_tests)
 
 -- ---- rows
 
@@ -64,18 +75,34 @@ given_row f store (u ∷ us) met = by (is_index u.role) (given_row f store us me
 
 -- ---- homes
 
--- the reference with a number
-numbered_there : (f : LoopFacts) (store : List (List ℤ)) (i : ℤ) (place : ℕ) (before : Option ℤ) (references : List Reference) (k : ℕ) → k < length references
-    → (u : Use) × (slice_get (uses_from f.arrays f.turn.adds store i place before references) k ≡ Some u) × (u.number ≡ place + k + 1)
-numbered_there f store i place before [] k less = absurd (omega arith)
-numbered_there f store i place before (r ∷ rs) zero less =
-    let at : place + 1 ≡ place + 0 + 1 = omega arith in
-    (use_of r i (place + 1) (subscript_of r.subscript i (number_at f.turn.adds place) before), refl, at)
-numbered_there f store i place before (r ∷ rs) (suc k) less =
+-- the reference with a number is the only one
+none_numbered : (f : LoopFacts) (store : List (List ℤ)) (i : ℤ) (n place : ℕ) (before : Option ℤ) (references : List Reference) → n ≤ place
+    → filter (λ u. (u.number == n) && is_met f.arrays u) (uses_from f.arrays f.turn.adds store i place before references) ≡ []
+none_numbered f store i n place before [] less = refl
+none_numbered f store i n place before (r ∷ rs) less =
     let u = use_of r i (place + 1) (subscript_of r.subscript i (number_at f.turn.adds place) before) in
-    let found = numbered_there f store i (place + 1) (index_value f.arrays store u) rs k (omega arith) in
-    let at : place + 1 + k + 1 ≡ place + suc k + 1 = omega arith in
-    (found.0, found.1, found.2 ∙ at)
+    let later = filter (λ v. (v.number == n) && is_met f.arrays v) (uses_from f.arrays f.turn.adds store i (place + 1) (index_value f.arrays store u) rs) in
+    ap (λ b. cond (b && is_met f.arrays u) (u ∷ later) later) (other_number (place + 1) n (omega (arith, less)))
+    ∙ none_numbered f store i n (place + 1) (index_value f.arrays store u) rs (omega (arith, less))
+
+one_numbered : (f : LoopFacts) (store : List (List ℤ)) (i : ℤ) (n place : ℕ) (before : Option ℤ) (references : List Reference) (k : ℕ) → k < length references
+    → n ≡ place + k + 1 → AllMet f.arrays (uses_from f.arrays f.turn.adds store i place before references)
+    → filter (λ u. (u.number == n) && is_met f.arrays u) (uses_from f.arrays f.turn.adds store i place before references)
+    ≡ unwrap_or (slice_get (uses_from f.arrays f.turn.adds store i place before references) k) no_use ∷ []
+one_numbered f store i n place before [] k less at met = absurd (omega (arith, less))
+one_numbered f store i n place before (r ∷ rs) zero less at met =
+    let u = use_of r i (place + 1) (subscript_of r.subscript i (number_at f.turn.adds place) before) in
+    let later = filter (λ v. (v.number == n) && is_met f.arrays v) (uses_from f.arrays f.turn.adds store i (place + 1) (index_value f.arrays store u) rs) in
+    let here : place + 1 ≡ n = omega (arith, at) in
+    ap (λ b. cond (b && is_met f.arrays u) (u ∷ later) later) (ap (λ m. m == n) here ∙ same_number n)
+    ∙ ap (λ b. cond b (u ∷ later) later) met.0
+    ∙ ap (λ l. u ∷ l) (none_numbered f store i n (place + 1) (index_value f.arrays store u) rs (omega (arith, here)))
+one_numbered f store i n place before (r ∷ rs) (suc k) less at met =
+    let u = use_of r i (place + 1) (subscript_of r.subscript i (number_at f.turn.adds place) before) in
+    let later = filter (λ v. (v.number == n) && is_met f.arrays v) (uses_from f.arrays f.turn.adds store i (place + 1) (index_value f.arrays store u) rs) in
+    let there : n ≡ place + 1 + k + 1 = omega (arith, at) in
+    ap (λ b. cond (b && is_met f.arrays u) (u ∷ later) later) (other_number (place + 1) n (omega (arith, at)))
+    ∙ one_numbered f store i n (place + 1) (index_value f.arrays store u) rs k (omega (arith, less)) there met.1
 
 -- the first target is one of the references
 record IsNumber (references : List Reference) (number : ℕ) : Type 0 where
@@ -95,79 +122,81 @@ target_there f site = by f.site.body site.some site.body
         let target : HasRole f.site.references Target (target_of s) = (all 0 s (omega arith)).target in
         record { first = target.0; last = there (slice_get f.site.references (target_of s - 1)) (target_of s - 1) refl target.1 }
 
-record IsReached (f : LoopFacts) (u : Use) : Type 0 where
-  met : is_met f.arrays u ≡ true
-  formula : HasFormula f Homes u
+-- with each met, all
+all_kept : (arrays : List ArrayFacts) (us : List Use) → AllMet arrays us → filter (λ u. true && is_met arrays u) us ≡ us
+all_kept arrays [] met = refl
+all_kept arrays (u ∷ us) met =
+    ap (λ b. cond b (u ∷ filter (λ v. true && is_met arrays v) us) (filter (λ v. true && is_met arrays v) us)) met.0
+    ∙ ap (λ l. u ∷ l) (all_kept arrays us met.1)
 
-owner_right : (f : LoopFacts) (owners : List (List ℕ)) (u : Use) → IsAccepted f → AreOwners f owners → IsReached f u → is_for f Homes u.number u.role ≡ true
-    → owner_told f u ≡ owner_met f owners u
-owner_right f owners u accepted owned reached looked =
-    ap (λ b. cond b (place_told f u).owner 0) reached.met
-    ∙ ap (λ p. p.owner) (told_right f owners Homes u accepted owned reached.met reached.formula looked)
+-- those that the asking is for are those that the rule looks at
+looked_right : (f : LoopFacts) (store : List (List ℤ)) (i : ℤ) (rule : HomeRule) → IsSite f.arrays f.site → AllMet f.arrays (uses_at f store i)
+    → filter (λ u. is_looked_at rule f.site.body u.number && is_met f.arrays u) (uses_at f store i) ≡ looked_at rule f.site.body (uses_at f store i)
+looked_right f store i Owner site met =
+    let target = target_there f site in
+    let number = first_target f.site.body in
+    let at : number ≡ 0 + (number - 1) + 1 = omega (arith, target.first) in
+    let next : number ≡ suc (number - 1) = omega (arith, target.first) in
+    one_numbered f store i number 0 None f.site.references (number - 1) target.last at met
+    ∙ ap (λ n. use_at (uses_at f store i) n ∷ []) (sym next)
+looked_right f store i Most site met = all_kept f.arrays (uses_at f store i) met
 
-owners_all : (f : LoopFacts) (owners : List (List ℕ)) → IsAccepted f → AreOwners f owners → ((u : Use) → is_for f Homes u.number u.role ≡ true) → (us : List Use)
-    → AllByRecursion (IsReached f) us → map (owner_told f) us ≡ map (owner_met f owners) us
-owners_all f owners accepted owned looked [] h = refl
-owners_all f owners accepted owned looked (u ∷ us) h =
-    ap (λ n. n ∷ map (owner_told f) us) (owner_right f owners u accepted owned h.0 (looked u)) ∙ ap (λ l. owner_met f owners u ∷ l) (owners_all f owners accepted owned looked us h.1)
-
-home_right : (f : LoopFacts) (owners : List (List ℕ)) (store : List (List ℤ)) (i : ℤ) → IsAccepted f → AreOwners f owners → AllByRecursion (IsReached f) (uses_at f store i)
-    → home_told f (uses_at f store i) ≡ home_of f owners store i
-home_right f owners store i accepted owned reached = ap (home_by f.rule f.nodes) (by f.rule refl)
-  where
-    us : List Use
-    us = uses_at f store i
-
-    by : (rule : HomeRule) → f.rule ≡ rule
-        → map (owner_told f) (looked_at rule f.site.body (uses_at f store i)) ≡ map (owner_met f owners) (looked_at rule f.site.body (uses_at f store i))
-    by Owner e =
-        let target = target_there f accepted.site in
-        let number = first_target f.site.body in
-        let found = numbered_there f store i 0 None f.site.references (number - 1) target.last in
-        let at : number ≡ suc (number - 1) = omega (arith, target.first) in
-        let it : use_at (uses_at f store i) number ≡ found.0 = ap (use_at (uses_at f store i)) at ∙ ap (λ o. unwrap_or o no_use) found.1 in
-        let named : found.0.number ≡ number = omega (arith, found.2, target.first) in
-        let looked : is_for f Homes found.0.number found.0.role ≡ true =
-        ap (λ rule. is_for (record f { rule = rule }) Homes found.0.number found.0.role) e ∙ ap (λ n. n == number) named ∙ same_number number in
-        let one : owner_told f found.0 ≡ owner_met f owners found.0 =
-        owner_right f owners found.0 accepted owned (all_at (IsReached f) (uses_at f store i) (number - 1) found.0 reached found.1) looked in
-        ap (λ u. owner_told f u ∷ []) it ∙ ap (λ n. n ∷ []) one ∙ ap (λ u. owner_met f owners u ∷ []) (sym it)
-    by Most e =
-        owners_all f owners accepted owned (λ u. ap (λ rule. is_for (record f { rule = rule }) Homes u.number u.role) e) (uses_at f store i) reached
+home_right : (f : LoopFacts) (owners : List (List ℕ)) (store : List (List ℤ)) (i : ℤ) (more : List Place) → IsAccepted f → AreOwners f owners → AllMet f.arrays (uses_at f store i)
+    → home_told f (map (place_met f owners) (filter (is_asked f Homes) (uses_at f store i)) ++ more) (uses_at f store i) ≡ home_of f owners store i
+home_right f owners store i more accepted owned met =
+    let us = uses_at f store i in
+    let owner : Spot → ℕ = λ s. s.owner in
+    ap (λ spots. home_by f.rule f.nodes (map owner spots)) (in_turn f owners Homes accepted owned us more)
+    ∙ ap (home_by f.rule f.nodes) (map_map_same owner (spot_met f owners) (owner_met f owners) (λ u. refl) (filter (is_reached f Homes) us))
+    ∙ ap (λ vs. home_by f.rule f.nodes (map (owner_met f owners) vs)) (looked_right f store i f.rule accepted.site met)
 
 -- ---- all iterations
 
 abbrev homed_of : LoopFacts → List (List ℕ) → List (List ℤ) → ℤ → Homed
 homed_of f owners store i = record { home = home_of f owners store i; row = iteration_row f store i }
 
-homed_along : (f : LoopFacts) (owners : List (List ℕ)) (store : List (List ℤ)) → IsAccepted f → AreOwners f owners → (is more : List ℤ)
-    → AllByRecursion (λ i. AllByRecursion (IsReached f) (uses_at f store i)) is
-    → homed_through f is (flat_map (values_at f store) is ++ more) ≡ map (homed_of f owners store) is
-homed_along f owners store accepted owned [] more reached = refl
-homed_along f owners store accepted owned (i ∷ is) more reached =
+-- the places that are asked for, of these references
+abbrev asked_places : LoopFacts → List (List ℕ) → List Use → List Place
+asked_places f owners us = map (place_met f owners) (filter (is_asked f Homes) us)
+
+places_split : (f : LoopFacts) (owners : List (List ℕ)) (us vs : List Use) (more : List Place)
+    → asked_places f owners (us ++ vs) ++ more ≡ asked_places f owners us ++ (asked_places f owners vs ++ more)
+places_split f owners us vs more =
+    ap (λ l. map (place_met f owners) l ++ more) (filter-append (is_asked f Homes) us vs)
+    ∙ ap (λ l. l ++ more) (map-append (place_met f owners) (filter (is_asked f Homes) us) (filter (is_asked f Homes) vs))
+    ∙ append_assoc (asked_places f owners us) (asked_places f owners vs) more
+
+homed_along : (f : LoopFacts) (owners : List (List ℕ)) (store : List (List ℤ)) → IsAccepted f → AreOwners f owners → (is more : List ℤ) (after : List Place)
+    → AllByRecursion (λ i. AllMet f.arrays (uses_at f store i)) is
+    → homed_through f is (flat_map (values_at f store) is ++ more) (asked_places f owners (flat_map (uses_at f store) is) ++ after) ≡ map (homed_of f owners store) is
+homed_along f owners store accepted owned [] more after met = refl
+homed_along f owners store accepted owned (i ∷ is) more after met =
     let later = flat_map (values_at f store) is ++ more in
     let here = values_at f store i in
     let us = uses_at f store i in
+    let behind = asked_places f owners (flat_map (uses_at f store) is) ++ after in
+    let places = asked_places f owners us ++ behind in
+    let count = count_by (gives_index f.arrays) us in
     let made : List Use → List Homed = λ vs.
-    record { home = home_told f vs; row = i ∷ take (count_by (gives_index f.arrays) vs) (here ++ later) } ∷ homed_through f is (drop (count_by (gives_index f.arrays) vs) (here ++ later)) in
+    record { home = home_told f places vs; row = i ∷ take (count_by (gives_index f.arrays) vs) (here ++ later) }
+    ∷ homed_through f is (drop (count_by (gives_index f.arrays) vs) (here ++ later)) (drop (count_by (is_asked f Homes) vs) places) in
     let one : ℕ → List ℤ → Homed = λ home row. record { home = home; row = row } in
-    let met : AllMet f.arrays us = all_weaker (IsReached f) (λ u. is_met f.arrays u ≡ true) (λ u h. h.met) us reached.0 in
-    let front : take (count_by (gives_index f.arrays) us) (here ++ later) ≡ map (read_of store) (filter (λ u. is_index u.role) us) =
-    take_at here later (count_by (gives_index f.arrays) us) (count_given f store us) ∙ given_row f store us met in
-    ap (homed_through f (i ∷ is)) (append_assoc here (flat_map (values_at f store) is) more)
+    let front : take count (here ++ later) ≡ map (read_of store) (filter (λ u. is_index u.role) us) =
+    take_at here later count (count_given f store us) ∙ given_row f store us met.0 in
+    ap (λ vs. homed_through f (i ∷ is) vs (asked_places f owners (flat_map (uses_at f store) (i ∷ is)) ++ after)) (append_assoc here (flat_map (values_at f store) is) more)
+    ∙ ap (homed_through f (i ∷ is) (here ++ later)) (places_split f owners us (flat_map (uses_at f store) is) after)
     ∙ ap made (uses_are_reached f store i later)
-    ∙ ap (λ vs. record { home = home_told f us; row = i ∷ take (count_by (gives_index f.arrays) us) (here ++ later) } ∷ homed_through f is vs) (values_are_behind f store i later)
-    ∙ ap (λ l. record { home = home_told f us; row = i ∷ take (count_by (gives_index f.arrays) us) (here ++ later) } ∷ l) (homed_along f owners store accepted owned is more reached.1)
-    ∙ ap (λ home. one home (i ∷ take (count_by (gives_index f.arrays) us) (here ++ later)) ∷ map (homed_of f owners store) is) (home_right f owners store i accepted owned reached.0)
+    ∙ ap (λ vs. one (home_told f places us) (i ∷ take count (here ++ later)) ∷ homed_through f is vs (drop (count_by (is_asked f Homes) us) places)) (values_are_behind f store i later)
+    ∙ ap (λ ps. one (home_told f places us) (i ∷ take count (here ++ later)) ∷ homed_through f is later ps) (places_behind f owners Homes us behind)
+    ∙ ap (λ l. one (home_told f places us) (i ∷ take count (here ++ later)) ∷ l) (homed_along f owners store accepted owned is more after met.1)
+    ∙ ap (λ home. one home (i ∷ take count (here ++ later)) ∷ map (homed_of f owners store) is) (home_right f owners store i behind accepted owned met.0)
     ∙ ap (λ row. one (home_of f owners store i) (i ∷ row) ∷ map (homed_of f owners store) is) front
 
 -- each reference of the node's own iterations
-reached_all : (f : LoopFacts) (store : List (List ℤ)) (p : ℕ) → IsAccepted f → asks_places f Homes ≡ false → offence_of f.arrays f.site f.turn store ≡ None
-    → AllByRecursion (λ i. AllByRecursion (IsReached f) (uses_at f store i)) (inspected_by f p)
-reached_all f store p accepted none sound =
-    all_weaker (λ i. ((provisional_home f i == p) ≡ true) × AllMet f.arrays (uses_at f store i)) (λ i. AllByRecursion (IsReached f) (uses_at f store i))
-    (λ i h. all_both (λ u. is_met f.arrays u ≡ true) (HasFormula f Homes) (IsReached f) (λ u met formula. record { met = met; formula = formula }) (uses_at f store i) h.1
-    (formula_at f Homes store none i))
+met_all : (f : LoopFacts) (store : List (List ℤ)) (p : ℕ) → IsAccepted f → offence_of f.arrays f.site f.turn store ≡ None
+    → AllByRecursion (λ i. AllMet f.arrays (uses_at f store i)) (inspected_by f p)
+met_all f store p accepted sound =
+    all_weaker (λ i. ((provisional_home f i == p) ≡ true) × AllMet f.arrays (uses_at f store i)) (λ i. AllMet f.arrays (uses_at f store i)) (λ i h. h.1)
     (inspected_by f p)
     (all_filter (λ i. AllMet f.arrays (uses_at f store i)) (λ i. provisional_home f i == p) (iterations_of f.turn) (all_met f store accepted.site sound))
 
@@ -183,14 +212,20 @@ rows_to f owners store q (i ∷ is) = by (home_of f owners store i == q) (rows_t
     by true e = ap (λ l. iteration_row f store i ++ l) e
     by false e = e
 
-pub rows_right : (f : LoopFacts) (owners : List (List ℕ)) (store : List (List ℤ)) (p : ℕ) (values : List ℤ) → IsAccepted f → AreOwners f owners → asks_places f Homes ≡ false
-    → values ≡ values_of f store p → offence_of f.arrays f.site f.turn store ≡ None
-    → deals (λ (h : Homed). h.home) (λ (h : Homed). h.row) f.nodes (homed_through f (inspected_by f p) values) ≡ sent_in f owners store Iterations p
-rows_right f owners store p values accepted owned none fetched sound =
+pub rows_right : (f : LoopFacts) (owners : List (List ℕ)) (store : List (List ℤ)) (p : ℕ) (values : List ℤ) (places : List Place) → IsAccepted f → AreOwners f owners
+    → values ≡ values_of f store p → places ≡ places_asked f owners store Homes p → offence_of f.arrays f.site f.turn store ≡ None
+    → deals (λ (h : Homed). h.home) (λ (h : Homed). h.row) f.nodes (homed_through f (inspected_by f p) values places) ≡ sent_in f owners store Iterations p
+rows_right f owners store p values places accepted owned fetched told sound =
     ap (deals (λ (h : Homed). h.home) (λ (h : Homed). h.row) f.nodes)
-    (ap (homed_through f (inspected_by f p)) (fetched ∙ sym (append-nil (values_of f store p)))
-    ∙ homed_along f owners store accepted owned (inspected_by f p) [] (reached_all f store p accepted none sound))
+    (ap (λ vs. homed_through f (inspected_by f p) vs places) (fetched ∙ sym (append-nil (values_of f store p)))
+    ∙ ap (homed_through f (inspected_by f p) (values_of f store p ++ [])) (told ∙ sym (append-nil (places_asked f owners store Homes p)))
+    ∙ homed_along f owners store accepted owned (inspected_by f p) [] [] (met_all f store p accepted sound))
     ∙ map-range-same _ _ 0 f.nodes (λ q. rows_to f owners store q (inspected_by f p))
+
+-- the references that tell their homes, with the values of index references
+pub homes_wanted : (f : LoopFacts) (owners : List (List ℕ)) (store : List (List ℤ)) (p : ℕ) (values : List ℤ) → values ≡ values_of f store p
+    → filter (is_asked f Homes) (uses_through f (inspected_by f p) values) ≡ uses_wanted f owners store Homes p
+homes_wanted f owners store p values e = ap (filter (is_asked f Homes)) (through_all f store (inspected_by f p) values e)
 
 -- ---- the rows that come
 

@@ -1,6 +1,6 @@
 -- Index references look at no value: what is evaluated of them without values are the loop's.
-use Rattle.std.proofs.Common.{◌≡◌, ℕ, suc, ◌+◌, ℤ, false, cond, List, [], ◌∷◌, ◌++◌, filter, Option, None, refl, ap, sym, ◌∙◌, arith}
-use Rattle.std.specs.Prelude.{All, ◌&&◌}
+use Rattle.std.proofs.Common.{◌≡◌, ℕ, zero, suc, ◌+◌, ℤ, false, cond, List, [], ◌∷◌, ◌++◌, filter, drop, Option, None, refl, ap, sym, ◌∙◌, arith}
+use Rattle.std.specs.Prelude.{All, ◌&&◌, count_by}
 use Rattle.std.specs.List.{flat_map, AllByRecursion}
 use Rattle.std.proofs.lemmas.List.Elements.{filter-append}
 use Rattle.fd_words.specs.declared.place.Role.{Role}
@@ -16,7 +16,7 @@ use Rattle.fd_program.specs.declared.reference.CheckedSubscript.{CheckedSubscrip
 use Rattle.fd_program.specs.declared.reference.CheckedSubscript.TheVariants.{Plain, Through, Scalar}
 use Rattle.fd_program.specs.declared.reference.Reference.{Reference}
 use Rattle.chaos_reach.specs.Reached.{uses_with}
-use Rattle.chaos_inspect.specs.Walking.{index_uses}
+use Rattle.chaos_inspect.specs.Walking.{uses_through, uses_without}
 
 -- all of a list, by recursion
 all_rest : {A : Type 0} (P : A → Type 0) (x : A) (xs : List A) → All P (x ∷ xs) → All P xs
@@ -63,11 +63,21 @@ module _ (arrays : List ArrayFacts) (adds : List ℤ) (store : List (List ℤ)) 
       (filter (gives_index arrays) (uses_from arrays adds store i (place + 1) (index_value arrays store v) rs))
       (indexes_same (place + 1) (value_told arrays u values) (index_value arrays store v) rs (values_behind arrays u values) h.1)
 
+-- without values
 pub indexes_right : (f : LoopFacts) (store : List (List ℤ)) (is : List ℤ) → IsSite f.arrays f.site
-    → index_uses f is ≡ filter (gives_index f.arrays) (flat_map (uses_at f store) is)
+    → filter (gives_index f.arrays) (uses_without f is) ≡ filter (gives_index f.arrays) (flat_map (uses_at f store) is)
 indexes_right f store [] site = refl
 indexes_right f store (i ∷ is) site =
-    filter-append (gives_index f.arrays) (uses_with f i []) (flat_map (λ j. uses_with f j []) is)
-    ∙ ap (λ l. l ++ index_uses f is) (indexes_same f.arrays f.turn.adds store i 0 None None f.site.references [] (all_by (IsReference f.arrays) f.site.references site.references))
+    filter-append (gives_index f.arrays) (uses_with f i []) (uses_without f is)
+    ∙ ap (λ l. l ++ filter (gives_index f.arrays) (uses_without f is)) (indexes_same f.arrays f.turn.adds store i 0 None None f.site.references [] (all_by (IsReference f.arrays) f.site.references site.references))
     ∙ ap (λ l. filter (gives_index f.arrays) (uses_at f store i) ++ l) (indexes_right f store is site)
     ∙ sym (filter-append (gives_index f.arrays) (uses_at f store i) (flat_map (uses_at f store) is))
+
+-- where there are no values
+pub through_none : (f : LoopFacts) (is : List ℤ) → uses_through f is [] ≡ uses_without f is
+through_none f [] = refl
+through_none f (i ∷ is) = by (count_by (gives_index f.arrays) (uses_with f i [])) (through_none f is)
+  where
+    by : (n : ℕ) → uses_through f is [] ≡ uses_without f is → uses_with f i [] ++ uses_through f is (drop n []) ≡ uses_with f i [] ++ uses_without f is
+    by zero e = ap (λ us. uses_with f i [] ++ us) e
+    by (suc n) e = ap (λ us. uses_with f i [] ++ us) e

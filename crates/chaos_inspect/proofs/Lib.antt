@@ -1,11 +1,13 @@
 pub mod Deals
 pub mod Walks
 pub mod IndexLaws
+pub mod Rounds
+pub mod Turns
 pub mod Sound
 pub mod Ranges
 pub mod Steps
 pub mod Fetching
-pub mod Regular
+pub mod Standing
 pub mod Homing
 pub mod Voting
 pub mod Beginning

@@ -1,8 +1,7 @@
 -- Steps of the loops over iterations, over plain lists.
-use Rattle.std.proofs.Common.{◌≡◌, ℕ, ◌+◌, ◌<◌, ◌≤◌, ℤ, pos, List, [], ◌∷◌, ◌++◌, length, map, filter, drop, take, get_or, refl, ap, sym, ◌∙◌, Some, None, Option, arith, append_assoc, append-nil}
+use Rattle.std.proofs.Common.{◌≡◌, ℕ, ◌+◌, ◌<◌, ◌≤◌, ℤ, pos, List, [], ◌∷◌, ◌++◌, length, filter, drop, take, get_or, refl, ap, sym, ◌∙◌, Some, None, Option, arith, append_assoc, append-nil}
 use Rattle.std.specs.Prelude.{count_by, filter_map}
-use Rattle.std.specs.List.{flat_map}
-use Rattle.std.proofs.lemmas.List.{at_drop_more, map-append}
+use Rattle.std.proofs.lemmas.List.{at_drop_more}
 use Rattle.std.proofs.lemmas.List.Elements.{filter-append, filter_map-append}
 use Rattle.fd_words.specs.declared.place.Offence.{Offence}
 use Rattle.fd_program.specs.Loops.{first_of, offence_at}
@@ -11,7 +10,11 @@ use Rattle.fd_program.specs.declared.loop_facts.LoopFacts.{LoopFacts}
 use Rattle.fd_program.specs.declared.loop_use.Use.{Use}
 use Rattle.chaos_reach.specs.Reached.{uses_with}
 use Rattle.chaos_inspect.specs.Dealing.{appended_at, dealt_onto}
-use Rattle.chaos_inspect.specs.Walking.{Homed, home_told, homed_through, index_uses, piece_value, piece_values, spot_of, uses_through}
+use Rattle.fd_words.specs.declared.place.Place.{Place}
+use Rattle.chaos_phases.specs.declared.loop_phase.Asking.{Asking}
+use Rattle.chaos_phases.specs.declared.loop_phase.Asking.TheVariants.{Homes, Indexes}
+use Rattle.chaos_inspect.specs.Walking.{Homed, home_told, homed_through, is_asked, piece_value, piece_values, spots_told, uses_through, uses_without}
+use Rattle.chaos_inspect.proofs.Turns.{told_append}
 use Rattle.chaos_inspect.specs.declared.spot.Spot.{Spot}
 
 -- the first of two
@@ -58,36 +61,48 @@ votes_found f is rest k i us o all less at used some before =
     ∙ ap (λ us. first_of (filter_map (offence_at f.arrays) us)) (walked f is rest more k i us less at used refl)
     ∙ before
 
+-- the references of one iteration more whose places are asked for
+pub wanted_step : (f : LoopFacts) (asking : Asking) (is rest more : List ℤ) (k : ℕ) (i : ℤ) (us list further all : List Use) → k < length is → get_or is k (pos 0) ≡ i
+    → us ≡ uses_with f i rest → further ≡ list ++ filter (is_asked f asking) us → more ≡ drop (count_by (gives_index f.arrays) us) rest
+    → list ++ filter (is_asked f asking) (uses_through f (drop k is) rest) ≡ all → further ++ filter (is_asked f asking) (uses_through f (drop (k + 1) is) more) ≡ all
+wanted_step f asking is rest more k i us list further all less at used kept behind before =
+    let later = uses_through f (drop (k + 1) is) more in
+    ap (λ l. l ++ filter (is_asked f asking) later) kept
+    ∙ append_assoc list (filter (is_asked f asking) us) (filter (is_asked f asking) later)
+    ∙ ap (λ l. list ++ l) (sym (filter-append (is_asked f asking) us later) ∙ ap (filter (is_asked f asking)) (walked f is rest more k i us less at used behind))
+    ∙ before
+
 -- the spots of one iteration more
-pub spots_step : (f : LoopFacts) (is : List ℤ) (k : ℕ) (i : ℤ) (us : List Use) (spots more all : List Spot) → k < length is → get_or is k (pos 0) ≡ i → us ≡ uses_with f i []
-    → more ≡ spots ++ map (spot_of f) (filter (gives_index f.arrays) us)
-    → spots ++ map (spot_of f) (index_uses f (drop k is)) ≡ all → more ++ map (spot_of f) (index_uses f (drop (k + 1) is)) ≡ all
-spots_step f is k i us spots more all less at used noted before =
-    let later = index_uses f (drop (k + 1) is) in
-    let here = filter (gives_index f.arrays) us in
-    ap (λ l. l ++ map (spot_of f) later) noted
-    ∙ append_assoc spots (map (spot_of f) here) (map (spot_of f) later)
-    ∙ ap (λ l. spots ++ l) (sym (map-append (spot_of f) here later)
-    ∙ ap (map (spot_of f)) (sym (filter-append (gives_index f.arrays) us (flat_map (λ j. uses_with f j []) (drop (k + 1) is)))
-    ∙ ap (λ l. filter (gives_index f.arrays) (l ++ flat_map (λ j. uses_with f j []) (drop (k + 1) is))) (used ∙ ap (λ j. uses_with f j []) (sym at))
-    ∙ sym (at_drop_more (index_uses f) is k (pos 0) less)))
+pub spots_step : (f : LoopFacts) (is : List ℤ) (rest more : List Place) (k : ℕ) (i : ℤ) (us : List Use) (spots further all : List Spot) → k < length is → get_or is k (pos 0) ≡ i
+    → us ≡ uses_with f i [] → further ≡ spots ++ spots_told f Indexes rest us → more ≡ drop (count_by (is_asked f Indexes) us) rest
+    → spots ++ spots_told f Indexes rest (uses_without f (drop k is)) ≡ all → further ++ spots_told f Indexes more (uses_without f (drop (k + 1) is)) ≡ all
+spots_step f is rest more k i us spots further all less at used noted behind before =
+    let later = uses_without f (drop (k + 1) is) in
+    ap (λ l. l ++ spots_told f Indexes more later) noted
+    ∙ append_assoc spots (spots_told f Indexes rest us) (spots_told f Indexes more later)
+    ∙ ap (λ l. spots ++ l) (ap (λ m. spots_told f Indexes rest us ++ spots_told f Indexes m later) behind
+    ∙ sym (told_append f Indexes rest us later)
+    ∙ ap (λ vs. spots_told f Indexes rest (vs ++ later)) (used ∙ ap (λ j. uses_with f j []) (sym at))
+    ∙ sym (at_drop_more (λ js. spots_told f Indexes rest (uses_without f js)) is k (pos 0) less))
     ∙ before
 
 -- the row of one iteration more
-pub homed_step : (f : LoopFacts) (is rest more : List ℤ) (k : ℕ) (i : ℤ) (us : List Use) (count home : ℕ) (lists further all : List (List ℤ)) → k < length is → get_or is k (pos 0) ≡ i
-    → us ≡ uses_with f i rest → count ≡ count_by (gives_index f.arrays) us → home ≡ home_told f us → further ≡ appended_at lists home (i ∷ take count rest)
-    → more ≡ drop count rest
-    → dealt_onto (λ (h : Homed). h.home) (λ (h : Homed). h.row) lists (homed_through f (drop k is) rest) ≡ all
-    → dealt_onto (λ (h : Homed). h.home) (λ (h : Homed). h.row) further (homed_through f (drop (k + 1) is) more) ≡ all
-homed_step f is rest more k i us count home lists further all less at used counted homed appended behind before =
+pub homed_step : (f : LoopFacts) (is rest more : List ℤ) (told later : List Place) (k : ℕ) (i : ℤ) (us : List Use) (count home : ℕ) (lists further all : List (List ℤ))
+    → k < length is → get_or is k (pos 0) ≡ i → us ≡ uses_with f i rest → count ≡ count_by (gives_index f.arrays) us → home ≡ home_told f told us
+    → further ≡ appended_at lists home (i ∷ take count rest) → more ≡ drop count rest → later ≡ drop (count_by (is_asked f Homes) us) told
+    → dealt_onto (λ (h : Homed). h.home) (λ (h : Homed). h.row) lists (homed_through f (drop k is) rest told) ≡ all
+    → dealt_onto (λ (h : Homed). h.home) (λ (h : Homed). h.row) further (homed_through f (drop (k + 1) is) more later) ≡ all
+homed_step f is rest more told later k i us count home lists further all less at used counted homed appended behind past before =
     let onto : List (List ℤ) → List Homed → List (List ℤ) = dealt_onto (λ (h : Homed). h.home) (λ (h : Homed). h.row) in
     let made : ℤ → List Use → List (List ℤ) = λ j vs.
-    onto (appended_at lists (home_told f vs) (j ∷ take (count_by (gives_index f.arrays) vs) rest)) (homed_through f (drop (k + 1) is) (drop (count_by (gives_index f.arrays) vs) rest)) in
-    ap (λ l. onto l (homed_through f (drop (k + 1) is) more)) (appended ∙ ap (λ n. appended_at lists n (i ∷ take count rest)) homed ∙ ap (λ n. appended_at lists (home_told f us) (i ∷ take n rest)) counted)
-    ∙ ap (λ vs. onto (appended_at lists (home_told f us) (i ∷ take (count_by (gives_index f.arrays) us) rest)) (homed_through f (drop (k + 1) is) vs)) (behind ∙ ap (λ n. drop n rest) counted)
+    onto (appended_at lists (home_told f told vs) (j ∷ take (count_by (gives_index f.arrays) vs) rest))
+    (homed_through f (drop (k + 1) is) (drop (count_by (gives_index f.arrays) vs) rest) (drop (count_by (is_asked f Homes) vs) told)) in
+    ap (λ l. onto l (homed_through f (drop (k + 1) is) more later)) (appended ∙ ap (λ n. appended_at lists n (i ∷ take count rest)) homed ∙ ap (λ n. appended_at lists (home_told f told us) (i ∷ take n rest)) counted)
+    ∙ ap (λ vs. onto (appended_at lists (home_told f told us) (i ∷ take (count_by (gives_index f.arrays) us) rest)) (homed_through f (drop (k + 1) is) vs later)) (behind ∙ ap (λ n. drop n rest) counted)
+    ∙ ap (λ ps. onto (appended_at lists (home_told f told us) (i ∷ take (count_by (gives_index f.arrays) us) rest)) (homed_through f (drop (k + 1) is) (drop (count_by (gives_index f.arrays) us) rest) ps)) past
     ∙ ap (made i) used
     ∙ ap (λ j. made j (uses_with f j rest)) (sym at)
-    ∙ sym (at_drop_more (λ js. onto lists (homed_through f js rest)) is k (pos 0) less)
+    ∙ sym (at_drop_more (λ js. onto lists (homed_through f js rest told)) is k (pos 0) less)
     ∙ before
 
 -- two numbers more are a pair

@@ -28,7 +28,7 @@ use Rattle.chaos_phases.specs.LoopLetters.{owed_in, sent_in}
 use Rattle.chaos_phases.specs.declared.loop_phase.LoopPhase.TheVariants.{Vote}
 use Rattle.chaos_reach.specs.Accepted.{IsAccepted}
 use Rattle.chaos_inspect.specs.Walking.{uses_through}
-use Rattle.chaos_inspect.specs.Inspecting.{values_of}
+use Rattle.chaos_inspect.specs.Met.{values_of}
 use Rattle.chaos_inspect.proofs.Fetching.{map_map_same}
 use Rattle.chaos_inspect.proofs.Walks.{through_all}
 

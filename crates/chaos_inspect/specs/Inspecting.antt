@@ -1,73 +1,91 @@
 -- How far an inspection has come, and what it has in hand there.
-use Rattle.std.specs.Prelude.{◌≡◌, ℕ, ◌<◌, ◌≤◌, ℤ, Bool, false, if◌then◌else◌, List, length, map, Option, Some, None, is_some, IfSome}
-use Rattle.std.specs.List.{flat_map}
+use Rattle.std.specs.Prelude.{◌≡◌, ℕ, ◌<◌, ◌≤◌, ℤ, Bool, if◌then◌else◌, List, length, map, Option, Some, None, is_some, IfSome}
+use Rattle.std.specs.List.{list_any}
 use Rattle.std.specs.Option.{option_and_then}
+use Rattle.chaos_asking.specs.Asks.{IsAsked}
+use Rattle.chaos_asking.specs.Laws.{uses_wanted}
 use Rattle.chaos_hash.specs.Stamps.{Stamps}
 use Rattle.chaos_phases.specs.Fits.{Fits}
 use Rattle.chaos_prepare.specs.Preparing.{IsEntering}
 use Rattle.chaos_prepare.specs.Tables.{IsEntered, slots_of}
 use Rattle.chaos_sched.specs.declared.prepared.Prepared.{Prepared}
 use Rattle.fd_words.specs.declared.place.Offence.{Offence}
-use Rattle.fd_program.specs.Homes.{inspected_by, owner_met}
+use Rattle.fd_program.specs.Homes.{inspected_by}
 use Rattle.fd_program.specs.Loops.{offence_of}
+use Rattle.fd_program.specs.Uses.{is_index}
 use Rattle.fd_program.specs.declared.loop_facts.LoopFacts.{LoopFacts}
-use Rattle.chaos_phases.specs.LoopLetters.{asks_places, indexes_of, local_met, owed_in, sent_in}
+use Rattle.fd_program.specs.declared.reference.Reference.{Reference}
+use Rattle.chaos_phases.specs.LoopLetters.{asks_places, indexes_of, owed_in, sent_in}
+use Rattle.chaos_phases.specs.declared.loop_phase.Asking.{Asking}
 use Rattle.chaos_phases.specs.declared.loop_phase.Asking.TheVariants.{Indexes, Homes, References}
 use Rattle.chaos_phases.specs.declared.loop_phase.LoopPhase.{LoopPhase}
 use Rattle.chaos_phases.specs.declared.loop_phase.LoopPhase.TheVariants.{DerefAsk, DerefAnswer, Gather, IndexAsk, IndexValues, Iterations, Scatter, ScheduleAsk, Vote}
 use Rattle.chaos_reach.specs.Accepted.{AreOwners, IsAccepted}
-use Rattle.chaos_reach.specs.ReachedLaws.{values_at}
+use Rattle.chaos_inspect.specs.Met.{places_asked, rows_of, spot_met, values_of}
 use Rattle.chaos_inspect.specs.declared.inspection.Inspection.{Inspection}
-use Rattle.fd_program.specs.declared.loop_use.Use.{Use}
-use Rattle.chaos_inspect.specs.declared.spot.Spot.{Spot}
 use Rattle.chaos_inspect.specs.declared.stage.Stage.{Stage}
-use Rattle.chaos_inspect.specs.declared.stage.Stage.TheVariants.{Fetching, Answering, Voting, Refused, Homing, Entered, Ready}
-
--- where the element of an index array stands
-abbrev pub spot_met : LoopFacts → List (List ℕ) → Use → Spot
-spot_met f owners u = record { owner = owner_met f owners u; array = u.array; local = local_met f owners u }
+use Rattle.chaos_inspect.specs.declared.stage.Stage.TheVariants.{Seeking, Telling, Fetching, Answering, Voting, Refused, Homing, Entered, Ready}
 
 -- the phase that is due
 abbrev pub phase_of : Stage → Option LoopPhase
+phase_of (Seeking asking) = Some (DerefAsk asking)
+phase_of (Telling asking asked) = Some (DerefAnswer asking)
 phase_of Fetching = Some IndexAsk
 phase_of (Answering asked) = Some IndexValues
 phase_of Voting = Some Vote
 phase_of (Refused offence) = None
-phase_of Homing = Some Iterations
+phase_of (Homing told) = Some Iterations
 phase_of (Entered entering) = Some ScheduleAsk
 phase_of (Ready prepared) = None
 
 abbrev pub offence_in : Stage → Option Offence
+offence_in (Seeking asking) = None
+offence_in (Telling asking asked) = None
 offence_in Fetching = None
 offence_in (Answering asked) = None
 offence_in Voting = None
 offence_in (Refused offence) = Some offence
-offence_in Homing = None
+offence_in (Homing told) = None
 offence_in (Entered entering) = None
 offence_in (Ready prepared) = None
 
--- the values that the index references give of the iterations that a node inspects
-abbrev pub values_of : LoopFacts → List (List ℤ) → ℕ → List ℤ
-values_of f store p = flat_map (values_at f store) (inspected_by f p)
+-- ---- what the earlier phases gave
 
--- what the earlier phases gave
-abbrev pub InHand : LoopFacts → List (List ℕ) → List (List ℤ) → List Stamps → ℕ → List ℤ → Stage → Type 0
-InHand f owners store tables p values Fetching = Unit {0}
-InHand f owners store tables p values (Answering asked) = asked ≡ owed_in f owners store IndexAsk p
-InHand f owners store tables p values Voting = values ≡ values_of f store p
-InHand f owners store tables p values (Refused offence) = offence_of f.arrays f.site f.turn store ≡ Some offence
-InHand f owners store tables p values Homing = (values ≡ values_of f store p) × (offence_of f.arrays f.site f.turn store ≡ None)
-InHand f owners store tables p values (Entered entering) = (offence_of f.arrays f.site f.turn store ≡ None) × IsEntering f owners store p tables entering
-InHand f owners store tables p values (Ready prepared) =
-    (offence_of f.arrays f.site f.turn store ≡ None) × Fits f owners store (slots_of f tables) p prepared × IsEntered f owners store p tables
+abbrev pub HasNoOffence : Inspection → List (List ℤ) → Type 0
+HasNoOffence x store = offence_of x.facts.arrays x.facts.site x.facts.turn store ≡ None
 
--- the loop is one of a checked program with so few arrays, and no place has to be asked for
+abbrev pub HasValues : Inspection → List (List ℤ) → Type 0
+HasValues x store = x.values ≡ values_of x.facts store x.me
+
+abbrev pub HasSpots : Inspection → List (List ℕ) → List (List ℤ) → Type 0
+HasSpots x owners store = x.spots ≡ map (spot_met x.facts owners) (indexes_of x.facts store x.me)
+
+-- before a round of asking for places
+abbrev pub InRound : Inspection → List (List ℕ) → List (List ℤ) → Asking → Type 0
+InRound x owners store Indexes = Unit {0}
+InRound x owners store Homes = HasValues x store × HasNoOffence x store
+InRound x owners store References = HasNoOffence x store × (x.rows ≡ rows_of x.facts owners store x.me)
+
+-- in it, the asks for just the references whose places are asked for
+abbrev pub IsSeeking : Inspection → List (List ℕ) → List (List ℤ) → Asking → Type 0
+IsSeeking x owners store asking = IsAsked x.facts (uses_wanted x.facts owners store asking x.me) x.asked × InRound x owners store asking
+
+abbrev pub InHand : Inspection → List (List ℕ) → List (List ℤ) → List Stamps → Stage → Type 0
+InHand x owners store tables (Seeking asking) = IsSeeking x owners store asking
+InHand x owners store tables (Telling asking asked) = IsSeeking x owners store asking × (asked ≡ owed_in x.facts owners store (DerefAsk asking) x.me)
+InHand x owners store tables Fetching = HasSpots x owners store
+InHand x owners store tables (Answering asked) = HasSpots x owners store × (asked ≡ owed_in x.facts owners store IndexAsk x.me)
+InHand x owners store tables Voting = HasValues x store
+InHand x owners store tables (Refused offence) = offence_of x.facts.arrays x.facts.site x.facts.turn store ≡ Some offence
+InHand x owners store tables (Homing told) = HasValues x store × HasNoOffence x store × (told ≡ places_asked x.facts owners store Homes x.me)
+InHand x owners store tables (Entered entering) = HasNoOffence x store × IsEntering x.facts owners store x.me tables entering
+InHand x owners store tables (Ready prepared) =
+    HasNoOffence x store × Fits x.facts owners store (slots_of x.facts tables) x.me prepared × IsEntered x.facts owners store x.me tables
+
+-- the loop is one of a checked program with so few arrays
 pub record IsInspected (f : LoopFacts) : Type 0 where
   pub accepted : IsAccepted f
   pub few : length f.arrays ≤ 64
-  pub indexes : asks_places f Indexes ≡ false
-  pub homes : asks_places f Homes ≡ false
-  pub references : asks_places f References ≡ false
 
 -- the inspection of this loop on this node has come to its stage
 pub record IsInspecting (x : Inspection) (owners : List (List ℕ)) (store : List (List ℤ)) (tables : List Stamps) : Type 0 where
@@ -75,8 +93,7 @@ pub record IsInspecting (x : Inspection) (owners : List (List ℕ)) (store : Lis
   pub owned : AreOwners x.facts owners
   pub node : x.me < x.facts.nodes
   pub mine : x.mine ≡ inspected_by x.facts x.me
-  pub spots : x.spots ≡ map (spot_met x.facts owners) (indexes_of x.facts store x.me)
-  pub hand : InHand x.facts owners store tables x.me x.values x.stage
+  pub hand : InHand x owners store tables x.stage
 
 -- these are the letters that the node sends in the phase that is due, and those that it is owed
 abbrev pub IsDue : Inspection → List (List ℕ) → List (List ℤ) → List (List ℤ) → Type 0
@@ -87,47 +104,65 @@ IsOwed x owners store lists = IfSome (phase_of x.stage) (λ l. lists ≡ owed_in
 
 -- ---- from stage to stage
 
--- where the inspection begins
-abbrev pub first_stage : Bool → Stage
-first_stage has_indexes = if has_indexes then Fetching else Voting
+abbrev pub has_indexes : LoopFacts → Bool
+has_indexes f = list_any (λ (r : Reference). is_index r.role) f.site.references
 
--- where the votes lead
-abbrev pub stage_after : Option Offence → Stage
-stage_after None = Homing
-stage_after (Some offence) = Refused offence
+-- where the inspection begins: places of index references are asked for, or their values, or there are none
+abbrev pub first_stage : Bool → Bool → Stage
+first_stage asks has = if asks then Seeking Indexes else if has then Fetching else Voting
 
--- the phase that follows one of an inspection, where no node has an offence and no place has to be asked for
-abbrev pub phase_after : LoopPhase → Option LoopPhase
-phase_after (DerefAsk asking) = None
-phase_after (DerefAnswer asking) = None
-phase_after IndexAsk = Some IndexValues
-phase_after IndexValues = Some Vote
-phase_after Vote = Some Iterations
-phase_after Iterations = Some ScheduleAsk
-phase_after ScheduleAsk = None
-phase_after Gather = None
-phase_after Scatter = None
+abbrev pub phase_first : Bool → Bool → LoopPhase
+phase_first asks has = if asks then DerefAsk Indexes else if has then IndexAsk else Vote
+
+abbrev pub first_phase : LoopFacts → LoopPhase
+first_phase f = phase_first (asks_places f Indexes) (has_indexes f)
+
+-- the phase that follows one of an inspection, where no node has an offence; places of the references that tell homes are asked for or not, and those
+-- of other references
+abbrev pub phase_behind : Bool → Bool → LoopPhase → Option LoopPhase
+phase_behind homes references (DerefAsk asking) = Some (DerefAnswer asking)
+phase_behind homes references (DerefAnswer Indexes) = Some IndexAsk
+phase_behind homes references (DerefAnswer Homes) = Some Iterations
+phase_behind homes references (DerefAnswer References) = Some ScheduleAsk
+phase_behind homes references IndexAsk = Some IndexValues
+phase_behind homes references IndexValues = Some Vote
+phase_behind homes references Vote = Some (if homes then DerefAsk Homes else Iterations)
+phase_behind homes references Iterations = Some (if references then DerefAsk References else ScheduleAsk)
+phase_behind homes references ScheduleAsk = None
+phase_behind homes references Gather = None
+phase_behind homes references Scatter = None
+
+abbrev pub phase_after : LoopFacts → LoopPhase → Option LoopPhase
+phase_after f phase = phase_behind (asks_places f Homes) (asks_places f References) phase
+
+-- the stage is one without an offence, of the phase that follows
+abbrev pub Follows : LoopFacts → LoopPhase → Stage → Type 0
+Follows f phase stage = (offence_in stage ≡ None) × (phase_of stage ≡ phase_after f phase)
 
 -- the stage is that of the phase that follows, or no phase follows where there is an offence
-abbrev pub IsNext : Stage → Stage → Type 0
-IsNext before after = phase_of after ≡ (if is_some (offence_in after) then None else option_and_then phase_after (phase_of before))
+abbrev pub IsNext : LoopFacts → Stage → Stage → Type 0
+IsNext f before after = phase_of after ≡ (if is_some (offence_in after) then None else option_and_then (phase_after f) (phase_of before))
 
 -- ---- the end
 
 abbrev pub IsReady : Stage → Type 0
+IsReady (Seeking asking) = ⊥
+IsReady (Telling asking asked) = ⊥
 IsReady Fetching = ⊥
 IsReady (Answering asked) = ⊥
 IsReady Voting = ⊥
 IsReady (Refused offence) = ⊥
-IsReady Homing = ⊥
+IsReady (Homing told) = ⊥
 IsReady (Entered entering) = ⊥
 IsReady (Ready prepared) = Unit {0}
 
 abbrev pub prepared_in : Stage → Option Prepared
+prepared_in (Seeking asking) = None
+prepared_in (Telling asking asked) = None
 prepared_in Fetching = None
 prepared_in (Answering asked) = None
 prepared_in Voting = None
 prepared_in (Refused offence) = None
-prepared_in Homing = None
+prepared_in (Homing told) = None
 prepared_in (Entered entering) = None
 prepared_in (Ready prepared) = Some prepared

@@ -1,10 +1,13 @@
--- What a node tells of iterations by itself: without the store, from the values that index references give.
-use Rattle.std.specs.Prelude.{ℕ, ℤ, pos, negsuc, if◌then◌else◌, List, [], ◌∷◌, ◌++◌, map, filter, drop, take, count_by, unwrap_or}
+-- What a node tells of iterations by itself: without the store, from the values that index references give and the places that it was told.
+use Rattle.std.specs.Prelude.{ℕ, ℤ, pos, negsuc, Bool, ◌&&◌, if◌then◌else◌, List, [], ◌∷◌, ◌++◌, map, drop, take, count_by, slice_get, unwrap_or}
 use Rattle.std.specs.List.{flat_map}
 use Rattle.std.specs.Int.{w64, cast_signed}
 use Rattle.fd_words.specs.Lists.{list_at}
 use Rattle.fd_words.specs.declared.place.Place.{Place}
-use Rattle.fd_program.specs.Homes.{home_by, looked_at}
+use Rattle.chaos_phases.specs.LoopLetters.{is_for, is_map, layout_for}
+use Rattle.chaos_phases.specs.declared.loop_phase.Asking.{Asking}
+use Rattle.chaos_phases.specs.declared.loop_phase.Asking.TheVariants.{Homes}
+use Rattle.fd_program.specs.Homes.{home_by}
 use Rattle.fd_program.specs.Stores.{number_at}
 use Rattle.fd_program.specs.Uses.{gives_index, is_met}
 use Rattle.fd_program.specs.declared.loop_facts.LoopFacts.{LoopFacts}
@@ -20,23 +23,45 @@ uses_through f [] values = []
 uses_through f (i ∷ is) values =
     uses_with f i values ++ uses_through f is (drop (count_by (gives_index f.arrays) (uses_with f i values)) values)
 
--- the index references that give an element; they look at no value
-abbrev pub index_uses : LoopFacts → List ℤ → List Use
-index_uses f is = filter (gives_index f.arrays) (flat_map (λ i. uses_with f i []) is)
+-- without values: what index references are, whatever they give
+abbrev pub uses_without : LoopFacts → List ℤ → List Use
+uses_without f is = flat_map (λ i. uses_with f i []) is
 
 -- ---- places
 
 abbrev pub nowhere : Place
 nowhere = record { owner = 0; local = 0 }
 
-abbrev pub place_told : LoopFacts → Use → Place
-place_told f u = unwrap_or (place_reached f u) nowhere
+-- the asking is for the reference, and its array has the element
+abbrev pub is_reached : LoopFacts → Asking → Use → Bool
+is_reached f asking u = is_for f asking u.number u.role && is_met f.arrays u
 
--- where the element stands that an index reference reaches
-abbrev pub spot_of : LoopFacts → Use → Spot
-spot_of f u = record { owner = (place_told f u).owner; array = u.array; local = (place_told f u).local }
+-- and no formula tells its place
+abbrev pub is_asked : LoopFacts → Asking → Use → Bool
+is_asked f asking u = is_for f asking u.number u.role && is_met f.arrays u && is_map (layout_for f u.array).form
 
--- the ask for it
+-- the place by formula, else the first of those told
+abbrev pub place_told : LoopFacts → List Place → Use → Place
+place_told f told u = unwrap_or (place_reached f u) (unwrap_or (slice_get told 0) nowhere)
+
+-- where the element stands that a reference reaches
+abbrev pub spot_of : LoopFacts → List Place → Use → Spot
+spot_of f told u = record { owner = (place_told f told u).owner; array = u.array; local = (place_told f told u).local }
+
+-- of one reference, if the asking is for it
+abbrev pub spots_one : LoopFacts → Asking → List Place → Use → List Spot
+spots_one f asking told u = if is_reached f asking u then spot_of f told u ∷ [] else []
+
+-- a place that is asked for is the first of those told
+abbrev pub told_behind : LoopFacts → Asking → List Place → Use → List Place
+told_behind f asking told u = if is_asked f asking u then drop 1 told else told
+
+-- of several references, one after another
+abbrev pub spots_told : LoopFacts → Asking → List Place → List Use → List Spot
+spots_told f asking told [] = []
+spots_told f asking told (u ∷ us) = spots_one f asking told u ++ spots_told f asking (told_behind f asking told u) us
+
+-- the ask for an index array's element
 abbrev pub spot_ask : Spot → List ℤ
 spot_ask s = pos s.array ∷ cast_signed w64 s.local ∷ []
 
@@ -56,21 +81,19 @@ piece_values pieces (array ∷ local ∷ rest) = piece_value pieces array local 
 
 -- ---- homes
 
--- the owner of the element that a reference reaches
-abbrev pub owner_told : LoopFacts → Use → ℕ
-owner_told f u = if is_met f.arrays u then (place_told f u).owner else 0
-
 -- the home of an iteration with these references
-abbrev pub home_told : LoopFacts → List Use → ℕ
-home_told f uses = home_by f.rule f.nodes (map (owner_told f) (looked_at f.rule f.site.body uses))
+abbrev pub home_told : LoopFacts → List Place → List Use → ℕ
+home_told f told uses = home_by f.rule f.nodes (map (λ (s : Spot). s.owner) (spots_told f Homes told uses))
 
 -- an iteration with its home and its row
 pub record Homed : Type 0 where
   pub home : ℕ
   pub row : List ℤ
 
-abbrev pub homed_through : LoopFacts → List ℤ → List ℤ → List Homed
-homed_through f [] values = []
-homed_through f (i ∷ is) values =
+-- with the values of their index references, and the places told of those that tell homes
+abbrev pub homed_through : LoopFacts → List ℤ → List ℤ → List Place → List Homed
+homed_through f [] values told = []
+homed_through f (i ∷ is) values told =
     let count = count_by (gives_index f.arrays) (uses_with f i values) in
-    record { home = home_told f (uses_with f i values); row = i ∷ take count values } ∷ homed_through f is (drop count values)
+    record { home = home_told f told (uses_with f i values); row = i ∷ take count values }
+    ∷ homed_through f is (drop count values) (drop (count_by (is_asked f Homes) (uses_with f i values)) told)

@@ -1,95 +1,65 @@
-ghost use Rattle.std.specs.Prelude.{◌≡◌, ◌≤◌, ◌∷◌, ◌++◌, length, map, take, IfOk, OnOk};
+//! The homes of iterations, and the rows that go there.
+ghost use Rattle.std.specs.Prelude.{◌≡◌, ◌≤◌, ◌∷◌, ◌++◌, length, map, take, slice_get, unwrap_or, IfOk, OnOk};
 ghost use Rattle.std.specs.List.{flat_map};
-ghost use Rattle.fd_program.specs.Homes.{first_target as first_target_of};
-ghost use Rattle.fd_program.specs.Uses.{use_at};
+ghost use Rattle.fd_program.specs.Homes.{home_by};
 ghost use Rattle.chaos_dist.specs.Homes.{most_of};
 ghost use Rattle.chaos_reach.specs.Accepted.{IsAccepted};
 ghost use Rattle.chaos_inspect.specs.Dealing.{appended_at, deals};
-ghost use Rattle.chaos_inspect.specs.Walking.{home_told, homed_through, owner_told};
+ghost use Rattle.chaos_inspect.specs.Walking.{home_told, homed_through};
 
 use crate::dealing::append_at;
-use crate::index::place;
+use crate::spot::{Spot, Spots, behind_all, note};
 use crate::votes::behind;
 use chaos_part::home_by_most;
-use chaos_reach::{given, is_met, uses};
-use fd_program::{CheckedBody, HomeRule, LoopFacts, Use};
-use fd_words::{Memory, NumberLists, Numbers, Role};
+use chaos_phases::Asking;
+use chaos_reach::{given, uses};
+use fd_program::{HomeRule, LoopFacts, Use};
+use fd_words::{Memory, NumberLists, Numbers, Place};
 use smallvec::SmallVec;
 use std::alloc::Global;
 
-/// The owner of the element that a reference reaches.
-fn owner(facts: &LoopFacts, used: Use) -> u32
-    requires { IsAccepted facts.now }
-    ensures { result ≡ owner_told facts.now used }
+/// The lowest node that owns most of these elements.
+fn most(alloc: Global, nodes: u32, spots: &[Spot]) -> Result<u32, Memory>
+    requires some { 1 ≤ nodes }
+    requires few { nodes ≤ 16 }
+    ensures { IfOk result (λ home. home ≡ most_of nodes (map (λ s. s.owner) spots.now)) }
 {
-    if is_met(facts.arrays.as_slice(), used) {
-        place(facts, used).owner
-    } else {
-        0
+    let mut owners: SmallVec<u32, 64> = SmallVec::new(alloc);
+    for spot in spots {
+        owners.push(spot.owner).map_err(|_| Memory)?;
     }
+    Ok(home_by_most(owners.as_slice(), nodes))
 }
 
-/// The reference number of the first statement's target.
-fn first_target(body: &[CheckedBody]) -> u32
-    ensures { result ≡ first_target_of body.now }
+/// The owner of the first of these elements.
+fn first_owner(spots: &[Spot]) -> u32
+    ensures { result ≡ unwrap_or (slice_get (map (λ s. s.owner) spots.now) 0) 0 }
 {
-    match body.first() {
-        Some(CheckedBody::Assign { target, value: _ }) => *target,
-        Some(
-            CheckedBody::Reduce {
-                operator: _,
-                target,
-                value: _,
-            },
-        ) => *target,
+    match spots.first() {
+        Some(spot) => spot.owner,
         None => 0,
     }
 }
 
-/// The use of the reference with this number, from 1.
-fn numbered(uses: &[Use], number: u32) -> Use
-    ensures { result ≡ use_at uses.now number }
-{
-    let none = Use {
-        iteration: 0,
-        number: 0,
-        role: Role::Read,
-        array: 0,
-        stamp: 0,
-        defined: false,
-        subscript: 0,
-    };
-    if number == 0 {
-        none
-    } else {
-        uses.get(number as usize - 1).copied().unwrap_or(none)
-    }
-}
-
-/// The lowest node that owns most of these references.
-fn most(alloc: Global, facts: &LoopFacts, uses: &[Use]) -> Result<u32, Memory>
+/// The home of an iteration, where the references that the rule looks at reach these elements.
+fn home_at(alloc: Global, facts: &LoopFacts, spots: &[Spot]) -> Result<u32, Memory>
     requires { IsAccepted facts.now }
-    ensures { IfOk result (λ home. home ≡ most_of facts.now.nodes (map (owner_told facts.now) uses.now)) }
+    ensures { IfOk result (λ home. home ≡ home_by facts.now.rule facts.now.nodes (map (λ s. s.owner) spots.now)) }
 {
-    let mut owners: SmallVec<u32, 64> = SmallVec::new(alloc);
-    for used in uses {
-        owners.push(owner(facts, *used)).map_err(|_| Memory)?;
+    match facts.rule {
+        HomeRule::Owner => Ok(first_owner(spots)),
+        HomeRule::Most => most(alloc, facts.nodes, spots),
     }
-    Ok(home_by_most(owners.as_slice(), facts.nodes))
 }
 
 /// The home of an iteration with these references.
-fn home(alloc: Global, facts: &LoopFacts, uses: &[Use]) -> Result<u32, Memory>
+fn home(alloc: Global, facts: &LoopFacts, told: &[Place], uses: &[Use]) -> Result<u32, Memory>
     requires { IsAccepted facts.now }
-    ensures { IfOk result (λ home. home ≡ home_told facts.now uses.now) }
+    ensures { IfOk result (λ home. home ≡ home_told facts.now told.now uses.now) }
 {
-    match facts.rule {
-        HomeRule::Owner => {
-            let target = first_target(facts.site.body.as_slice());
-            Ok(owner(facts, numbered(uses, target)))
-        }
-        HomeRule::Most => most(alloc, facts, uses),
-    }
+    let mut spots = Spots::new(alloc);
+    note(facts, Asking::Homes, told, uses, &mut spots)?;
+    home_at(alloc, facts, spots.as_slice())
 }
 
 /// Up to so many of the values.
@@ -117,25 +87,29 @@ fn append_iteration(
     append_at(lists, home, values)
 }
 
-/// The rows of these iterations, whose index references give these values, to the homes.
+/// The rows of these iterations, whose index references give these values, to the homes; `told` has the
+/// places that are asked for of the references that tell homes.
 pub fn homed(
     alloc: Global,
     facts: &LoopFacts,
     iterations: &[i64],
     values: &[i64],
+    told: &[Place],
 ) -> Result<NumberLists, Memory>
     requires { IsAccepted facts.now }
-    ensures { IfOk result (λ lists. lists ≡ deals (λ h. h.home) (λ h. h.row) facts.now.nodes (homed_through facts.now iterations.now values.now)) }
+    ensures { IfOk result (λ lists. lists ≡ deals (λ h. h.home) (λ h. h.row) facts.now.nodes (homed_through facts.now iterations.now values.now told.now)) }
 {
     let arrays = facts.arrays.as_slice();
     let mut lists = NumberLists::empty(alloc, facts.nodes)?;
     let mut rest = values;
+    let mut places = told;
     for i in iterations {
         let used = uses(alloc, facts, *i, rest)?;
         let count = given(arrays, used.as_slice());
-        let home = home(alloc, facts, used.as_slice())?;
+        let home = home(alloc, facts, places, used.as_slice())?;
         append_iteration(&mut lists, home, *i, front(rest, count))?;
         rest = behind(rest, count);
+        places = behind_all(facts, Asking::Homes, places, used.as_slice());
     }
     Ok(lists)
 }

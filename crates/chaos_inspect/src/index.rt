@@ -1,69 +1,15 @@
-ghost use Rattle.std.specs.Prelude.{◌≡◌, ◌≤◌, [], ◌∷◌, ◌++◌, true, pos, length, map, filter, replicate, IfOk, OnOk};
-ghost use Rattle.fd_program.specs.Uses.{gives_index, is_met as is_met_of};
-ghost use Rattle.chaos_reach.specs.Accepted.{IsAccepted};
+//! The letters by which the values of index arrays are fetched.
+ghost use Rattle.std.specs.Prelude.{◌≡◌, pos, map, replicate, IfOk};
 ghost use Rattle.chaos_inspect.specs.Dealing.{deals, draws};
-ghost use Rattle.chaos_inspect.specs.Walking.{index_uses, piece_value, piece_values, place_told, spot_ask, spot_of};
+ghost use Rattle.chaos_inspect.specs.Walking.{piece_value, piece_values, spot_ask};
 
 use crate::dealing::{MOST_NODES, append_at, draw};
-use crate::spot::{Spot, Spots};
+use crate::spot::Spot;
 use crate::votes::behind;
-use chaos_reach::{gives, place_by_formula, uses};
-use fd_program::{LoopFacts, Use};
-use fd_words::{Memory, NumberLists, Numbers, Place};
+use fd_words::{Memory, NumberLists, Numbers};
 use std::alloc::Global;
 
-/// The place of the element that a reference reaches, by formula.
-pub fn place(facts: &LoopFacts, used: Use) -> Place
-    requires accepted { IsAccepted facts.now }
-    requires met { is_met_of facts.now.arrays used ≡ true }
-    ensures { result ≡ place_told facts.now used }
-{
-    match place_by_formula(facts, used) {
-        Some(place) => place,
-        None => Place { owner: 0, local: 0 },
-    }
-}
-
-fn spot(facts: &LoopFacts, used: Use) -> Spot
-    requires accepted { IsAccepted facts.now }
-    requires met { is_met_of facts.now.arrays used ≡ true }
-    ensures { result ≡ spot_of facts.now used }
-{
-    let place = place(facts, used);
-    Spot {
-        owner: place.owner,
-        array: used.array,
-        local: place.local,
-    }
-}
-
-/// Notes where the elements stand that index references give.
-fn note(facts: &LoopFacts, uses: &[Use], spots: &mut Spots) -> Result<(), Memory>
-    requires { IsAccepted facts.now }
-    ensures { OnOk result (spots.new ≡ spots.old ++ map (spot_of facts.now) (filter (gives_index facts.now.arrays) uses.now)) }
-{
-    for used in uses {
-        if gives(facts.arrays.as_slice(), *used) {
-            spots.push(spot(facts, *used))?;
-        }
-    }
-    Ok(())
-}
-
-/// Where the elements of index arrays stand that these iterations look at.
-pub fn spots(alloc: Global, facts: &LoopFacts, iterations: &[i64]) -> Result<Spots, Memory>
-    requires { IsAccepted facts.now }
-    ensures { IfOk result (λ spots. spots ≡ map (spot_of facts.now) (index_uses facts.now iterations.now)) }
-{
-    let mut spots = Spots::new(alloc);
-    for i in iterations {
-        let used = uses(alloc, facts, *i, &[])?;
-        note(facts, used.as_slice(), &mut spots)?;
-    }
-    Ok(spots)
-}
-
-/// The asks for them: to the owner of each its array and local address.
+/// The asks for these elements: to the owner of each its array and local address.
 pub fn asks(alloc: Global, nodes: u32, spots: &[Spot]) -> Result<NumberLists, Memory>
     ensures { IfOk result (λ lists. lists ≡ deals (λ s. s.owner) spot_ask nodes spots.now) }
 {

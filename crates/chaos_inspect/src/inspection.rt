@@ -1,26 +1,32 @@
-ghost use Rattle.std.specs.Prelude.{◌≡◌, ◌<◌, ℕ, ℤ, List, length, Some, None, IfOk, OnOk, OnErr};
+ghost use Rattle.std.specs.Prelude.{◌≡◌, ◌<◌, ◌≤◌, ℕ, ℤ, false, List, length, Some, None, IfOk, OnOk, OnErr};
 ghost use Rattle.std.specs.List.{list_any};
 ghost use Rattle.std.specs.Option.{option_map};
+ghost use Rattle.chaos_asking.specs.Asks.{ArePages};
 ghost use Rattle.fd_program.specs.Loops.{offence_of};
 ghost use Rattle.fd_program.specs.Places.{parts_of};
 ghost use Rattle.fd_program.specs.Uses.{is_index};
-ghost use Rattle.chaos_phases.specs.LoopLetters.{kind_in_loop, owed_in, sent_in};
+ghost use Rattle.chaos_phases.specs.LoopLetters.{asks_places, kind_in_loop, owed_in, sent_in};
+ghost use Rattle.chaos_phases.specs.declared.loop_phase.Asking.{Asking as AskingOf};
+ghost use Rattle.chaos_phases.specs.declared.loop_phase.Asking.TheVariants as round;
 ghost use Rattle.chaos_phases.specs.declared.loop_phase.LoopPhase.TheVariants as phase;
 ghost use Rattle.chaos_reach.specs.Accepted.{AreOwners, IsAccepted};
 ghost use Rattle.chaos_hash.specs.Stamps.{Stamps};
 ghost use Rattle.chaos_phases.specs.Fits.{Fits};
 ghost use Rattle.chaos_prepare.specs.Tables.{HasPlaces, IsEntered, KeepsOtherStamps, slots_of};
-ghost use Rattle.chaos_inspect.specs.Inspecting.{IsDue, IsInspected, IsInspecting, IsNext, IsOwed, IsReady, first_stage, prepared_in, offence_in, phase_of, stage_after, values_of};
+ghost use Rattle.chaos_inspect.specs.Inspecting.{Follows, HasNoOffence, HasSpots, HasValues, IsDue, IsInspecting, IsNext, IsOwed, IsReady, IsSeeking, first_phase, first_stage, prepared_in, offence_in, phase_of};
+ghost use Rattle.chaos_inspect.specs.declared.stage.Stage.TheVariants as stage;
+ghost use Rattle.chaos_inspect.specs.Met.{places_asked, rows_of};
 
 use crate::spot::Spots;
 use crate::stage::Stage;
-use crate::{homes, index, range, votes};
+use crate::{homes, index, range, round, spot, votes};
+use chaos_asking::{Asked, PageSet};
 use chaos_letter::Kind;
-use chaos_phases::LoopPhase;
-use chaos_prepare::{TableSet, enter};
+use chaos_phases::{Asking, LoopPhase};
+use chaos_prepare::{TableSet, enter, uses_to_place};
 use chaos_sched::Prepared;
 use fd_program::{LoopFacts, Reference};
-use fd_words::{Memory, NumberLists, Numbers, Offence, Role};
+use fd_words::{Memory, NumberLists, Numbers, Offence, Place, Places, Role};
 use std::alloc::Global;
 
 /// One inspection of a FORALL on one node.
@@ -30,10 +36,14 @@ pub struct Inspection {
     pub me: u32,
     /// The iterations that this node inspects.
     pub mine: Numbers,
-    /// Where the elements stand that their index references reach.
+    /// The places that it asks for, in a round of asking.
+    pub asked: Asked,
+    /// Where the elements stand that their index references reach, once no place of theirs is wanting.
     pub spots: Spots,
     /// What they give, once the values are here.
     pub values: Numbers,
+    /// The rows of the iterations whose home is here, while places are asked for.
+    pub rows: Numbers,
     pub stage: Stage,
 }
 
@@ -45,59 +55,75 @@ fn has_index(references: &[Reference]) -> bool
 }
 
 /// Where an inspection begins.
-fn first(has_indexes: bool) -> Stage
-    ensures { result ≡ first_stage has_indexes }
+fn first(seeks: bool, has_indexes: bool) -> Stage
+    ensures { result ≡ first_stage seeks has_indexes }
 {
-    if has_indexes {
+    if seeks {
+        Stage::Seeking(Asking::Indexes)
+    } else if has_indexes {
         Stage::Fetching
     } else {
         Stage::Voting
     }
 }
 
-/// Where the votes lead.
-fn after(vote: Option<Offence>) -> Stage
-    ensures { result ≡ stage_after vote }
-{
-    match vote {
-        Some(offence) => Stage::Refused(offence),
-        None => Stage::Homing,
-    }
-}
-
 impl Inspection {
     /// An inspection of this loop on node `me`, before its first phase.
     pub fn begin(alloc: Global, facts: LoopFacts, me: u32) -> Result<Inspection, Memory>
-        requires inspected { IsInspected facts }
+        requires accepted { IsAccepted facts }
+        requires few { length facts.arrays ≤ 64 }
         requires node { me < facts.nodes }
         ensures facts { IfOk result (λ x. x.facts ≡ facts) }
         ensures me { IfOk result (λ x. x.me ≡ me) }
-        ensures stage { IfOk result (λ x. x.stage ≡ first_stage (list_any (λ r. is_index r.role) facts.site.references)) }
+        ensures phase { IfOk result (λ x. phase_of x.stage ≡ Some (first_phase facts)) }
+        ensures offence { IfOk result (λ x. offence_in x.stage ≡ None) }
         ensures inspecting { IfOk result (λ x. (owners : List (List ℕ)) (store : List (List ℤ)) (tables : List Stamps) → AreOwners facts owners → IsInspecting x owners store tables) }
     {
         let mine = range::inspected(alloc, &facts, me)?;
-        let spots = index::spots(alloc, &facts, mine.as_slice())?;
-        let stage = first(has_index(facts.site.references.as_slice()));
+        let seeks = round::asks(&facts, Asking::Indexes);
+        let asked = round::first_asked(alloc, &facts, seeks, mine.as_slice())?;
+        let spots = spot::first_spots(alloc, &facts, seeks, mine.as_slice())?;
+        let stage = first(seeks, has_index(facts.site.references.as_slice()));
         Ok(Inspection {
             facts,
             me,
             mine,
+            asked,
             spots,
             values: Numbers::new(alloc),
+            rows: Numbers::new(alloc),
             stage,
         })
     }
 
-    /// The phase that is due.
-    fn due(&self) -> Option<LoopPhase>
+    /// An equal inspection, where these are equal facts.
+    pub fn copy(&self, alloc: Global, facts: LoopFacts) -> Result<Inspection, Memory>
+        ensures { IfOk result (λ x. facts ≡ self.now.facts → x ≡ self.now) }
+    {
+        Ok(Inspection {
+            facts,
+            me: self.me,
+            mine: self.mine.copy(alloc)?,
+            asked: self.asked.copy(alloc)?,
+            spots: Spots::from_slice(alloc, self.spots.as_slice())?,
+            values: self.values.copy(alloc)?,
+            rows: self.rows.copy(alloc)?,
+            stage: self.stage.copy(alloc)?,
+        })
+    }
+
+    /// The phase that is due; none where a node had an offence, or the inspection is at its end.
+    pub fn phase(&self) -> Option<LoopPhase>
         ensures { result ≡ phase_of self.now.stage }
     {
         match &self.stage {
+            Stage::Seeking(asking) => Some(LoopPhase::DerefAsk(*asking)),
+            Stage::Telling(asking, _) => Some(LoopPhase::DerefAnswer(*asking)),
             Stage::Fetching => Some(LoopPhase::IndexAsk),
             Stage::Answering(_) => Some(LoopPhase::IndexValues),
             Stage::Voting => Some(LoopPhase::Vote),
             Stage::Refused(_) => None,
-            Stage::Homing => Some(LoopPhase::Iterations),
+            Stage::Homing(_) => Some(LoopPhase::Iterations),
             Stage::Entered(_) => Some(LoopPhase::ScheduleAsk),
             Stage::Ready(_) => None,
         }
@@ -107,7 +133,7 @@ impl Inspection {
     pub fn wants(&self) -> Option<Kind>
         ensures { result ≡ option_map kind_in_loop (phase_of self.now.stage) }
     {
-        match self.due() {
+        match self.phase() {
             Some(phase) => Some(phase.kind()),
             None => None,
         }
@@ -118,11 +144,13 @@ impl Inspection {
         ensures { result ≡ offence_in self.now.stage }
     {
         match &self.stage {
+            Stage::Seeking(_) => None,
+            Stage::Telling(_, _) => None,
             Stage::Fetching => None,
             Stage::Answering(_) => None,
             Stage::Voting => None,
             Stage::Refused(offence) => Some(*offence),
-            Stage::Homing => None,
+            Stage::Homing(_) => None,
             Stage::Entered(_) => None,
             Stage::Ready(_) => None,
         }
@@ -130,10 +158,18 @@ impl Inspection {
 
     // ---- letters
 
+    /// The asks for places, to the nodes that keep the pages.
+    fn place_asks(&self, alloc: Global) -> Result<NumberLists, Memory>
+        ensures { IfOk result (λ lists. (owners : List (List ℕ)) (store : List (List ℤ)) (asking : AskingOf) → IsSeeking self.now owners store asking
+            → lists ≡ sent_in self.now.facts owners store (phase.DerefAsk asking) self.now.me) }
+    {
+        self.asked.asks(alloc, &self.facts)
+    }
+
     /// The asks for the values of index arrays.
     fn asks(&self, alloc: Global) -> Result<NumberLists, Memory>
         requires { IsAccepted self.now.facts }
-        ensures { IfOk result (λ lists. (owners : List (List ℕ)) (store : List (List ℤ)) (tables : List Stamps) → IsInspecting self.now owners store tables
+        ensures { IfOk result (λ lists. (owners : List (List ℕ)) (store : List (List ℤ)) (tables : List Stamps) → IsInspecting self.now owners store tables → HasSpots self.now owners store
             → lists ≡ sent_in self.now.facts owners store phase.IndexAsk self.now.me) }
     {
         index::asks(alloc, self.facts.nodes, self.spots.as_slice())
@@ -159,7 +195,7 @@ impl Inspection {
     fn votes(&self, alloc: Global) -> Result<NumberLists, Memory>
         requires { IsAccepted self.now.facts }
         ensures { IfOk result (λ lists. (owners : List (List ℕ)) (store : List (List ℤ)) (tables : List Stamps) → IsInspecting self.now owners store tables
-            → self.now.values ≡ values_of self.now.facts store self.now.me
+            → HasValues self.now store
             → lists ≡ sent_in self.now.facts owners store phase.Vote self.now.me) }
     {
         let vote = votes::own_vote(
@@ -173,11 +209,10 @@ impl Inspection {
     }
 
     /// The iterations that this node inspects, to their homes.
-    fn rows(&self, alloc: Global) -> Result<NumberLists, Memory>
+    fn home_rows(&self, alloc: Global, told: &[Place]) -> Result<NumberLists, Memory>
         requires { IsAccepted self.now.facts }
         ensures { IfOk result (λ lists. (owners : List (List ℕ)) (store : List (List ℤ)) (tables : List Stamps) → IsInspecting self.now owners store tables
-            → self.now.values ≡ values_of self.now.facts store self.now.me
-            → offence_of self.now.facts.arrays self.now.facts.site self.now.facts.turn store ≡ None
+            → HasValues self.now store → HasNoOffence self.now store → told.now ≡ places_asked self.now.facts owners store round.Homes self.now.me
             → lists ≡ sent_in self.now.facts owners store phase.Iterations self.now.me) }
     {
         homes::homed(
@@ -185,22 +220,30 @@ impl Inspection {
             &self.facts,
             self.mine.as_slice(),
             self.values.as_slice(),
+            told,
         )
     }
 
     /// The letters of the phase that is due, a list for each node; `pieces` has this node's parts of the
-    /// arrays. No list where no phase is due.
-    pub fn outgoing(&self, alloc: Global, pieces: &NumberLists) -> Result<NumberLists, Memory>
+    /// arrays, and `pages` its pages of the decompositions with a map. No list where no phase is due.
+    pub fn outgoing(
+        &self,
+        alloc: Global,
+        pieces: &NumberLists,
+        pages: &PageSet,
+    ) -> Result<NumberLists, Memory>
         requires { IsAccepted self.now.facts }
         ensures { IfOk result (λ lists. (owners : List (List ℕ)) (store : List (List ℤ)) (tables : List Stamps) → IsInspecting self.now owners store tables
-            → pieces.now ≡ parts_of self.now.facts.arrays owners store self.now.me → IsDue self.now owners store lists) }
+            → pieces.now ≡ parts_of self.now.facts.arrays owners store self.now.me → ArePages self.now.facts self.now.me owners pages.now → IsDue self.now owners store lists) }
     {
         match &self.stage {
+            Stage::Seeking(_) => self.place_asks(alloc),
+            Stage::Telling(_, asked) => chaos_asking::answers(alloc, &self.facts, pages, asked),
             Stage::Fetching => self.asks(alloc),
             Stage::Answering(asked) => self.answers(alloc, pieces, asked),
             Stage::Voting => self.votes(alloc),
             Stage::Refused(_) => Ok(NumberLists::new(alloc)),
-            Stage::Homing => self.rows(alloc),
+            Stage::Homing(told) => self.home_rows(alloc, told.as_slice()),
             Stage::Entered(entering) => entering.asks(alloc, &self.facts),
             Stage::Ready(_) => Ok(NumberLists::new(alloc)),
         }
@@ -208,13 +251,127 @@ impl Inspection {
 
     // ---- ends of phases
 
+    /// The other nodes' asks for places are here.
+    fn take_place_asks(
+        &mut self,
+        alloc: Global,
+        asking: Asking,
+        taken: &NumberLists,
+    ) -> Result<(), Memory>
+        ensures facts { self.new.facts ≡ self.old.facts }
+        ensures me { self.new.me ≡ self.old.me }
+        ensures err { OnErr result (self.new ≡ self.old) }
+        ensures next { OnOk result (Follows self.old.facts (phase.DerefAsk asking) self.new.stage) }
+        ensures inspecting { OnOk result ((owners : List (List ℕ)) (store : List (List ℤ)) (tables : List Stamps) → IsInspecting self.old owners store tables
+            → IsSeeking self.old owners store asking → taken.now ≡ owed_in self.old.facts owners store (phase.DerefAsk asking) self.old.me
+            → IsInspecting self.new owners store tables) }
+    {
+        let asked = taken.copy(alloc)?;
+        self.stage = Stage::Telling(asking, asked);
+        Ok(())
+    }
+
+    /// These are the places of index references.
+    fn find_indexes(&mut self, alloc: Global, told: &[Place]) -> Result<(), Memory>
+        requires { IsAccepted self.old.facts }
+        ensures facts { self.new.facts ≡ self.old.facts }
+        ensures me { self.new.me ≡ self.old.me }
+        ensures err { OnErr result (self.new ≡ self.old) }
+        ensures next { OnOk result (Follows self.old.facts (phase.DerefAnswer round.Indexes) self.new.stage) }
+        ensures inspecting { OnOk result ((owners : List (List ℕ)) (store : List (List ℤ)) (tables : List Stamps) → IsInspecting self.old owners store tables
+            → told.now ≡ places_asked self.old.facts owners store round.Indexes self.old.me → IsInspecting self.new owners store tables) }
+    {
+        let spots = spot::spots(alloc, &self.facts, self.mine.as_slice(), told)?;
+        self.spots = spots;
+        self.stage = Stage::Fetching;
+        Ok(())
+    }
+
+    /// These are the places of the references of the rows in hand: enters them in the tables.
+    fn enter_told(
+        &mut self,
+        alloc: Global,
+        told: &[Place],
+        tables: &mut TableSet,
+    ) -> Result<(), Memory>
+        requires accepted { IsAccepted self.old.facts }
+        requires tables { length tables.old ≡ length self.old.facts.layouts }
+        ensures facts { self.new.facts ≡ self.old.facts }
+        ensures me { self.new.me ≡ self.old.me }
+        ensures err { OnErr result (self.new ≡ self.old) }
+        ensures next { OnOk result (Follows self.old.facts (phase.DerefAnswer round.References) self.new.stage) }
+        ensures inspecting { OnOk result ((owners : List (List ℕ)) (store : List (List ℤ)) (before : List Stamps) → IsInspecting self.old owners store before
+            → IsSeeking self.old owners store round.References → told.now ≡ places_asked self.old.facts owners store round.References self.old.me
+            → IsInspecting self.new owners store tables.new) }
+        ensures places { (owners : List (List ℕ)) (store : List (List ℤ)) (before : List Stamps) → IsInspecting self.old owners store before
+            → IsSeeking self.old owners store round.References → told.now ≡ places_asked self.old.facts owners store round.References self.old.me
+            → HasPlaces owners tables.old → HasPlaces owners tables.new }
+        ensures others { KeepsOtherStamps self.old.facts tables.old tables.new }
+        ensures count { length tables.new ≡ length tables.old }
+    {
+        let entering = enter(
+            alloc,
+            &self.facts,
+            self.me,
+            self.rows.as_slice(),
+            told,
+            tables,
+        )?;
+        self.stage = Stage::Entered(entering);
+        Ok(())
+    }
+
+    /// The places that were asked for in this round.
+    fn told(&self, alloc: Global, taken: &NumberLists) -> Result<Places, Memory>
+        requires { IsAccepted self.now.facts }
+        ensures { IfOk result (λ places. (owners : List (List ℕ)) (store : List (List ℤ)) (asking : AskingOf) → AreOwners self.now.facts owners
+            → IsSeeking self.now owners store asking → taken.now ≡ owed_in self.now.facts owners store (phase.DerefAnswer asking) self.now.me
+            → places ≡ places_asked self.now.facts owners store asking self.now.me) }
+    {
+        self.asked.places(alloc, &self.facts, taken)
+    }
+
+    /// The places that were asked for are told.
+    fn take_places(
+        &mut self,
+        alloc: Global,
+        asking: Asking,
+        taken: &NumberLists,
+        tables: &mut TableSet,
+    ) -> Result<(), Memory>
+        requires accepted { IsAccepted self.old.facts }
+        requires tables { length tables.old ≡ length self.old.facts.layouts }
+        ensures facts { self.new.facts ≡ self.old.facts }
+        ensures me { self.new.me ≡ self.old.me }
+        ensures err { OnErr result (self.new ≡ self.old) }
+        ensures next { OnOk result (Follows self.old.facts (phase.DerefAnswer asking) self.new.stage) }
+        ensures inspecting { OnOk result ((owners : List (List ℕ)) (store : List (List ℤ)) → IsInspecting self.old owners store tables.old
+            → IsSeeking self.old owners store asking → taken.now ≡ owed_in self.old.facts owners store (phase.DerefAnswer asking) self.old.me
+            → IsInspecting self.new owners store tables.new) }
+        ensures places { (owners : List (List ℕ)) (store : List (List ℤ)) → IsInspecting self.old owners store tables.old
+            → IsSeeking self.old owners store asking → taken.now ≡ owed_in self.old.facts owners store (phase.DerefAnswer asking) self.old.me
+            → HasPlaces owners tables.old → HasPlaces owners tables.new }
+        ensures others { KeepsOtherStamps self.old.facts tables.old tables.new }
+        ensures count { length tables.new ≡ length tables.old }
+    {
+        let told = self.told(alloc, taken)?;
+        match asking {
+            Asking::Indexes => self.find_indexes(alloc, told.as_slice()),
+            Asking::Homes => {
+                self.stage = Stage::Homing(told);
+                Ok(())
+            }
+            Asking::References => self.enter_told(alloc, told.as_slice(), tables),
+        }
+    }
+
     fn take_asks(&mut self, alloc: Global, taken: &NumberLists) -> Result<(), Memory>
         ensures facts { self.new.facts ≡ self.old.facts }
         ensures me { self.new.me ≡ self.old.me }
         ensures err { OnErr result (self.new ≡ self.old) }
-        ensures next { OnOk result ((offence_in self.new.stage ≡ None) × (phase_of self.new.stage ≡ Some phase.IndexValues)) }
+        ensures next { OnOk result (Follows self.old.facts phase.IndexAsk self.new.stage) }
         ensures inspecting { OnOk result ((owners : List (List ℕ)) (store : List (List ℤ)) (tables : List Stamps) → IsInspecting self.old owners store tables
-            → taken.now ≡ owed_in self.old.facts owners store phase.IndexAsk self.old.me → IsInspecting self.new owners store tables) }
+            → HasSpots self.old owners store → taken.now ≡ owed_in self.old.facts owners store phase.IndexAsk self.old.me → IsInspecting self.new owners store tables) }
     {
         let asked = taken.copy(alloc)?;
         self.stage = Stage::Answering(asked);
@@ -226,9 +383,9 @@ impl Inspection {
         ensures facts { self.new.facts ≡ self.old.facts }
         ensures me { self.new.me ≡ self.old.me }
         ensures err { OnErr result (self.new ≡ self.old) }
-        ensures next { OnOk result ((offence_in self.new.stage ≡ None) × (phase_of self.new.stage ≡ Some phase.Vote)) }
+        ensures next { OnOk result (Follows self.old.facts phase.IndexValues self.new.stage) }
         ensures inspecting { OnOk result ((owners : List (List ℕ)) (store : List (List ℤ)) (tables : List Stamps) → IsInspecting self.old owners store tables
-            → taken.now ≡ owed_in self.old.facts owners store phase.IndexValues self.old.me → IsInspecting self.new owners store tables) }
+            → HasSpots self.old owners store → taken.now ≡ owed_in self.old.facts owners store phase.IndexValues self.old.me → IsInspecting self.new owners store tables) }
     {
         let values = index::values(alloc, self.spots.as_slice(), taken)?;
         self.values = values;
@@ -236,22 +393,112 @@ impl Inspection {
         Ok(())
     }
 
+    /// Asks for the places of the references that tell homes.
+    fn seek_homes(&mut self, alloc: Global) -> Result<(), Memory>
+        requires { IsAccepted self.old.facts }
+        ensures facts { self.new.facts ≡ self.old.facts }
+        ensures me { self.new.me ≡ self.old.me }
+        ensures err { OnErr result (self.new ≡ self.old) }
+        ensures stage { OnOk result ((offence_in self.new.stage ≡ None) × (phase_of self.new.stage ≡ Some (phase.DerefAsk round.Homes))) }
+        ensures inspecting { OnOk result ((owners : List (List ℕ)) (store : List (List ℤ)) (tables : List Stamps) → IsInspecting self.old owners store tables
+            → HasValues self.old store → HasNoOffence self.old store → IsInspecting self.new owners store tables) }
+    {
+        let asked = round::asked(
+            alloc,
+            &self.facts,
+            Asking::Homes,
+            self.mine.as_slice(),
+            self.values.as_slice(),
+        )?;
+        self.asked = asked;
+        self.stage = Stage::Seeking(Asking::Homes);
+        Ok(())
+    }
+
+    /// No node had an offence: iterations go to their homes.
+    fn go_home(&mut self, alloc: Global) -> Result<(), Memory>
+        requires { IsAccepted self.old.facts }
+        ensures facts { self.new.facts ≡ self.old.facts }
+        ensures me { self.new.me ≡ self.old.me }
+        ensures err { OnErr result (self.new ≡ self.old) }
+        ensures next { OnOk result (Follows self.old.facts phase.Vote self.new.stage) }
+        ensures inspecting { OnOk result ((owners : List (List ℕ)) (store : List (List ℤ)) (tables : List Stamps) → IsInspecting self.old owners store tables
+            → HasValues self.old store → HasNoOffence self.old store → IsInspecting self.new owners store tables) }
+    {
+        if round::asks(&self.facts, Asking::Homes) {
+            self.seek_homes(alloc)
+        } else {
+            self.stage = Stage::Homing(Places::new(alloc));
+            Ok(())
+        }
+    }
+
     fn take_votes(&mut self, alloc: Global, taken: &NumberLists) -> Result<(), Memory>
         requires { IsAccepted self.old.facts }
         ensures facts { self.new.facts ≡ self.old.facts }
         ensures me { self.new.me ≡ self.old.me }
         ensures err { OnErr result (self.new ≡ self.old) }
-        ensures next { OnOk result (self.new.stage ≡ stage_after (offence_in self.new.stage)) }
+        ensures next { OnOk result (IsNext self.old.facts stage.Voting self.new.stage) }
         ensures inspecting { OnOk result ((owners : List (List ℕ)) (store : List (List ℤ)) (tables : List Stamps) → IsInspecting self.old owners store tables
-            → self.old.values ≡ values_of self.old.facts store self.old.me
-            → taken.now ≡ owed_in self.old.facts owners store phase.Vote self.old.me → IsInspecting self.new owners store tables) }
+            → HasValues self.old store → taken.now ≡ owed_in self.old.facts owners store phase.Vote self.old.me → IsInspecting self.new owners store tables) }
     {
         let vote = votes::least_told(alloc, taken.as_slice())?;
-        self.stage = after(vote);
+        match vote {
+            Some(offence) => {
+                self.stage = Stage::Refused(offence);
+                Ok(())
+            }
+            None => self.go_home(alloc),
+        }
+    }
+
+    /// Asks for the places of these rows' references.
+    fn seek_references(&mut self, alloc: Global, rows: Numbers) -> Result<(), Memory>
+        requires { IsAccepted self.old.facts }
+        ensures facts { self.new.facts ≡ self.old.facts }
+        ensures me { self.new.me ≡ self.old.me }
+        ensures err { OnErr result (self.new ≡ self.old) }
+        ensures stage { OnOk result ((offence_in self.new.stage ≡ None) × (phase_of self.new.stage ≡ Some (phase.DerefAsk round.References))) }
+        ensures inspecting { OnOk result ((owners : List (List ℕ)) (store : List (List ℤ)) (tables : List Stamps) → IsInspecting self.old owners store tables
+            → HasNoOffence self.old store → rows ≡ rows_of self.old.facts owners store self.old.me → IsInspecting self.new owners store tables) }
+    {
+        let uses = uses_to_place(alloc, &self.facts, rows.as_slice())?;
+        let asked = Asked::new(alloc, &self.facts, uses.as_slice())?;
+        self.asked = asked;
+        self.rows = rows;
+        self.stage = Stage::Seeking(Asking::References);
         Ok(())
     }
 
-    /// Enters the iterations whose home is here in the tables.
+    /// Enters these rows' references, whose places are all told by formula, in the tables.
+    fn enter_rows(
+        &mut self,
+        alloc: Global,
+        rows: &[i64],
+        tables: &mut TableSet,
+    ) -> Result<(), Memory>
+        requires accepted { IsAccepted self.old.facts }
+        requires tables { length tables.old ≡ length self.old.facts.layouts }
+        ensures facts { self.new.facts ≡ self.old.facts }
+        ensures me { self.new.me ≡ self.old.me }
+        ensures err { OnErr result (self.new ≡ self.old) }
+        ensures stage { OnOk result ((offence_in self.new.stage ≡ None) × (phase_of self.new.stage ≡ Some phase.ScheduleAsk)) }
+        ensures inspecting { OnOk result ((owners : List (List ℕ)) (store : List (List ℤ)) (before : List Stamps) → IsInspecting self.old owners store before
+            → HasNoOffence self.old store → rows.now ≡ rows_of self.old.facts owners store self.old.me → asks_places self.old.facts round.References ≡ false
+            → IsInspecting self.new owners store tables.new) }
+        ensures places { (owners : List (List ℕ)) (store : List (List ℤ)) (before : List Stamps) → IsInspecting self.old owners store before
+            → HasNoOffence self.old store → rows.now ≡ rows_of self.old.facts owners store self.old.me → asks_places self.old.facts round.References ≡ false
+            → HasPlaces owners tables.old → HasPlaces owners tables.new }
+        ensures others { KeepsOtherStamps self.old.facts tables.old tables.new }
+        ensures count { length tables.new ≡ length tables.old }
+    {
+        let entering = enter(alloc, &self.facts, self.me, rows, &[], tables)?;
+        self.stage = Stage::Entered(entering);
+        Ok(())
+    }
+
+    /// The rows of the iterations whose home is here: asks for the places of their references, or
+    /// enters these in the tables.
     fn take_rows(
         &mut self,
         alloc: Global,
@@ -263,20 +510,21 @@ impl Inspection {
         ensures facts { self.new.facts ≡ self.old.facts }
         ensures me { self.new.me ≡ self.old.me }
         ensures err { OnErr result (self.new ≡ self.old) }
-        ensures next { OnOk result ((offence_in self.new.stage ≡ None) × (phase_of self.new.stage ≡ Some phase.ScheduleAsk)) }
-        ensures inspecting { OnOk result ((owners : List (List ℕ)) (store : List (List ℤ)) (before : List Stamps) → IsInspecting self.old owners store before
-            → offence_of self.old.facts.arrays self.old.facts.site self.old.facts.turn store ≡ None
-            → taken.now ≡ owed_in self.old.facts owners store phase.Iterations self.old.me → IsInspecting self.new owners store tables.new) }
-        ensures places { (owners : List (List ℕ)) (store : List (List ℤ)) (before : List Stamps) → IsInspecting self.old owners store before
-            → offence_of self.old.facts.arrays self.old.facts.site self.old.facts.turn store ≡ None
-            → taken.now ≡ owed_in self.old.facts owners store phase.Iterations self.old.me → HasPlaces owners tables.old → HasPlaces owners tables.new }
+        ensures next { OnOk result (Follows self.old.facts phase.Iterations self.new.stage) }
+        ensures inspecting { OnOk result ((owners : List (List ℕ)) (store : List (List ℤ)) → IsInspecting self.old owners store tables.old
+            → HasNoOffence self.old store → taken.now ≡ owed_in self.old.facts owners store phase.Iterations self.old.me → IsInspecting self.new owners store tables.new) }
+        ensures places { (owners : List (List ℕ)) (store : List (List ℤ)) → IsInspecting self.old owners store tables.old
+            → HasNoOffence self.old store → taken.now ≡ owed_in self.old.facts owners store phase.Iterations self.old.me
+            → HasPlaces owners tables.old → HasPlaces owners tables.new }
         ensures others { KeepsOtherStamps self.old.facts tables.old tables.new }
         ensures count { length tables.new ≡ length tables.old }
     {
         let rows = homes::joined(alloc, taken.as_slice())?;
-        let entering = enter(alloc, &self.facts, self.me, rows.as_slice(), &[], tables)?;
-        self.stage = Stage::Entered(entering);
-        Ok(())
+        if round::asks(&self.facts, Asking::References) {
+            self.seek_references(alloc, rows)
+        } else {
+            self.enter_rows(alloc, rows.as_slice(), tables)
+        }
     }
 
     /// Ends the phase that is due, with the letters of all nodes. Where memory is wanting the inspection is
@@ -292,7 +540,7 @@ impl Inspection {
         ensures facts { self.new.facts ≡ self.old.facts }
         ensures me { self.new.me ≡ self.old.me }
         ensures err { OnErr result (self.new ≡ self.old) }
-        ensures next { OnOk result (IsNext self.old.stage self.new.stage) }
+        ensures next { OnOk result (IsNext self.old.facts self.old.stage self.new.stage) }
         ensures inspecting { OnOk result ((owners : List (List ℕ)) (store : List (List ℤ)) → IsInspecting self.old owners store tables.old
             → IsOwed self.old owners store taken.now → IsInspecting self.new owners store tables.new) }
         ensures places { (owners : List (List ℕ)) (store : List (List ℤ)) → IsInspecting self.old owners store tables.old
@@ -301,11 +549,19 @@ impl Inspection {
         ensures count { length tables.new ≡ length tables.old }
     {
         match &self.stage {
+            Stage::Seeking(asking) => {
+                let asking = *asking;
+                self.take_place_asks(alloc, asking, taken)
+            }
+            Stage::Telling(asking, _) => {
+                let asking = *asking;
+                self.take_places(alloc, asking, taken, tables)
+            }
             Stage::Fetching => self.take_asks(alloc, taken),
             Stage::Answering(_) => self.take_values(alloc, taken),
             Stage::Voting => self.take_votes(alloc, taken),
             Stage::Refused(_) => Ok(()),
-            Stage::Homing => self.take_rows(alloc, taken, tables),
+            Stage::Homing(_) => self.take_rows(alloc, taken, tables),
             Stage::Entered(entering) => {
                 let prepared = entering.finish(alloc, &self.facts, taken)?;
                 self.stage = Stage::Ready(prepared);
@@ -326,8 +582,10 @@ impl Inspection {
             facts: _,
             me: _,
             mine: _,
+            asked: _,
             spots: _,
             values: _,
+            rows: _,
             stage,
         } = self;
         match stage {

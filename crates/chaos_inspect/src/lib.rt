@@ -1,6 +1,7 @@
 //! The inspection of a FORALL on one node, phase by phase: the values of index arrays are fetched, the
 //! nodes vote whether a subscript is out of range, iterations go to their homes, and their references are
-//! prepared there.
+//! prepared there. Where arrays have a map layout, places are first asked for of the nodes that keep its
+//! pages: those of index references, of the references that tell homes, and of all others.
 #![tactic(auto)]
 
 mod dealing;
@@ -9,6 +10,7 @@ mod index;
 mod inspection;
 mod laws;
 mod range;
+mod round;
 mod spot;
 mod stage;
 mod votes;

@@ -14,5 +14,6 @@ mod table_set;
 
 pub use entering::Entering;
 pub use laws::{formulas_tell_all, stamp_laws};
+pub use placing::uses_to_place;
 pub use preparing::enter;
 pub use table_set::TableSet;

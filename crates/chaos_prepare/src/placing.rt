@@ -1,15 +1,19 @@
 //! Where the elements stand that references reach.
-ghost use Rattle.std.specs.Prelude.{◌≡◌, ◌<◌, ◌+◌, ◌^◌, ℕ, List, map, filter, slice_get, true, if◌then◌else◌, IfOk};
-ghost use Rattle.std.specs.List.{AllByRecursion};
+ghost use Rattle.std.specs.Prelude.{◌≡◌, ◌<◌, ◌+◌, ◌++◌, ◌∷◌, [], ◌^◌, ℕ, ℤ, List, map, filter, slice_get, true, if◌then◌else◌, IfOk, OnOk};
+ghost use Rattle.std.specs.List.{AllByRecursion, flat_map};
 ghost use Rattle.fd_program.specs.Uses.{is_met as is_met_of};
+ghost use Rattle.chaos_phases.specs.Fits.{kept_uses};
+ghost use Rattle.chaos_phases.specs.LoopLetters.{iteration_row};
 ghost use Rattle.chaos_prepare.specs.Placed.{IsKept, IsTold, is_mapped as is_mapped_use, placed_at};
+ghost use Rattle.chaos_prepare.specs.Rows.{AreMet};
 ghost use Rattle.chaos_reach.specs.Accepted.{IsAccepted, AreOwners};
 ghost use Rattle.chaos_reach.specs.Reached.{place_met, place_reached};
 
 use crate::placed::{Placed, PlacedList};
+use crate::rows::read_rows;
 use chaos_dist::StepForm;
 use chaos_reach::{layout_of, place_by_formula};
-use fd_program::{LoopFacts, Use};
+use fd_program::{LoopFacts, Use, Uses};
 use fd_words::{Memory, Place};
 use std::alloc::Global;
 
@@ -93,4 +97,36 @@ pub(crate) fn place_all(
         next = behind(facts, *used, next);
     }
     Ok(placed)
+}
+
+fn keep_mapped(facts: &LoopFacts, used: Use, list: &mut Uses) -> Result<(), Memory>
+    ensures { OnOk result (list.new ≡ list.old ++ filter (is_mapped_use facts.now) (used ∷ [])) }
+{
+    if is_mapped(facts, used) {
+        list.push(used)?;
+    }
+    Ok(())
+}
+
+/// Those of these references whose places no formula tells.
+fn mapped_of(alloc: Global, facts: &LoopFacts, uses: &[Use]) -> Result<Uses, Memory>
+    ensures { IfOk result (λ list. list ≡ filter (is_mapped_use facts.now) uses.now) }
+{
+    let mut list = Uses::new(alloc);
+    for used in uses {
+        keep_mapped(facts, *used, &mut list)?;
+    }
+    Ok(list)
+}
+
+/// The references of these rows, but for index references, whose places no formula tells, by iteration
+/// and reference number. `rows` has each iteration with the values of its index references.
+pub fn uses_to_place(alloc: Global, facts: &LoopFacts, rows: &[i64]) -> Result<Uses, Memory>
+    requires { IsAccepted facts.now }
+    ensures met { IfOk result (λ uses. AllByRecursion (λ u. is_met_of facts.now.arrays u ≡ true) uses) }
+    ensures uses { IfOk result (λ uses. (store : List (List ℤ)) (iterations : List ℤ) → AreMet facts.now store iterations
+        → rows.now ≡ flat_map (iteration_row facts.now store) iterations → uses ≡ filter (is_mapped_use facts.now) (kept_uses facts.now store iterations)) }
+{
+    let own = read_rows(alloc, facts, rows)?;
+    mapped_of(alloc, facts, own.uses.as_slice())
 }

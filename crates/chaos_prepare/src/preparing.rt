@@ -12,7 +12,7 @@ use crate::needs::needs_of;
 use crate::placing::place_all;
 use crate::rows::read_rows;
 use crate::{Entering, TableSet};
-use chaos_sched::{LocalRefs, Prepared, asks_of, from_asks};
+use chaos_sched::{LocalRefs, Needs, Prepared, asks_of, from_asks};
 use fd_program::LoopFacts;
 use fd_words::{Memory, NumberLists, Place};
 use std::alloc::Global;
@@ -51,6 +51,17 @@ pub fn enter(
 }
 
 impl Entering {
+    /// An equal value.
+    pub fn copy(&self, alloc: Global) -> Result<Entering, Memory>
+        ensures { IfOk result (λ x. x ≡ self.now) }
+    {
+        Ok(Entering {
+            iterations: self.iterations.copy(alloc)?,
+            references: LocalRefs::from_slice(alloc, self.references.as_slice())?,
+            needs: Needs::from_slice(alloc, self.needs.as_slice())?,
+        })
+    }
+
     /// What the node asks of each node: for the elements that its references read, and for those that they
     /// assign or reduce into.
     pub fn asks(&self, alloc: Global, facts: &LoopFacts) -> Result<NumberLists, Memory>

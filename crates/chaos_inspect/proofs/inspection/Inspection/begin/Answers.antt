@@ -1,26 +1,44 @@
-use Rattle.std.proofs.Common.{ap, ◌∙◌, map, sym, subst}
+use Rattle.std.proofs.Common.{[], ap, sym, subst, ◌∙◌}
 use Rattle.std.specs.List.{list_any}
 use Rattle.fd_program.specs.Uses.{is_index}
 use Rattle.fd_program.specs.declared.reference.Reference.{Reference}
+use Rattle.chaos_phases.specs.declared.loop_phase.Asking.TheVariants.{Indexes}
+use Rattle.chaos_inspect.specs.Walking.{spots_told, uses_without}
 use Rattle.chaos_inspect.specs.Inspecting.{InHand}
-use Rattle.fd_program.specs.Homes.{inspected_by}
-use Rattle.chaos_inspect.specs.Walking.{index_uses, spot_of}
-use Rattle.chaos_inspect.proofs.Beginning.{hand_first}
-use Rattle.chaos_inspect.proofs.IndexLaws.{indexes_right}
-use Rattle.chaos_inspect.proofs.Regular.{spots_right}
+use Rattle.chaos_inspect.specs.declared.inspection.Inspection.{Inspection}
+use Rattle.chaos_inspect.proofs.Beginning.{Begins, Begun, hand_first, phase_begun}
 use Rattle.chaos_inspect.proofs.inspection.Inspection.begin.Goals as goal
 
 pub returns-clause-inspecting : goal.returns-clause-inspecting
 returns-clause-inspecting c = λ owners store tables owned.
-    let f = c.args.facts in record {
-      loop = c.requires.inspected;
+    let x : Inspection = record {
+      facts = c.args.facts;
+      me = c.args.me;
+      mine = c.in_ok-mine.mine;
+      asked = c.in_ok-asked.asked;
+      spots = c.in_ok-spots.spots;
+      values = c.new.result;
+      rows = c.new-2.result;
+      stage = c.first-stage.result;
+    } in
+    let begins : Begins x c.asks-seeks.result c.has_index.result = record {
+      accepted = c.requires.accepted;
+      mine = c.in_ok-mine.ensures;
+      asks = sym c.asks-seeks.ensures;
+      indexes = sym (c.has_index.ensures ∙ ap (list_any (λ (r : Reference). is_index r.role)) c.as_slice-3.ensures);
+      values = c.new.ensures;
+      asked = λ e. subst (Begun c.args.facts c.in_ok-asked.asked) c.as_slice.ensures (c.in_ok-asked.ensures e);
+      spots = λ e. c.in_ok-spots.ensures e ∙ ap (λ is. spots_told c.args.facts Indexes [] (uses_without c.args.facts is)) c.as_slice-2.ensures;
+    } in
+    record {
+      loop = record { accepted = c.requires.accepted; few = c.requires.few };
       owned = owned;
       node = c.requires.node;
       mine = c.in_ok-mine.ensures;
-      spots =
-          c.in_ok-spots.ensures
-          ∙ ap (λ is. map (spot_of f) (index_uses f is)) (c.as_slice.ensures ∙ c.in_ok-mine.ensures)
-          ∙ ap (map (spot_of f)) (indexes_right f store (inspected_by f c.args.me) c.requires.inspected.accepted.site)
-          ∙ spots_right f owners store c.args.me c.requires.inspected.accepted owned c.requires.inspected.indexes;
-      hand = subst (InHand f owners store tables c.args.me c.new.result) (sym c.first-stage.ensures) (hand_first f owners store tables c.args.me c.new.result c.has_index.result (sym (c.has_index.ensures ∙ ap (list_any (λ (r : Reference). is_index r.role)) c.as_slice-2.ensures)) c.new.ensures);
+      hand = subst (InHand x owners store tables) (sym c.first-stage.ensures) (hand_first x owners store tables c.asks-seeks.result c.has_index.result owned begins);
     }
+
+pub returns-clause-phase : goal.returns-clause-phase
+returns-clause-phase c =
+    phase_begun c.args.facts c.first-stage.result c.asks-seeks.result c.has_index.result c.first-stage.ensures c.asks-seeks.ensures
+    (c.has_index.ensures ∙ ap (list_any (λ (r : Reference). is_index r.role)) c.as_slice-3.ensures)

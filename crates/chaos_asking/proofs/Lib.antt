@@ -1,0 +1,4 @@
+pub mod Deals
+pub mod Steps
+pub mod Orders
+pub mod Letters

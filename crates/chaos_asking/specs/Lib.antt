@@ -1,0 +1,4 @@
+pub mod Asks
+pub mod Dealing
+pub mod Telling
+pub mod Laws

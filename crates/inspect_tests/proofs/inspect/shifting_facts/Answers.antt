@@ -1,0 +1,11 @@
+use Rattle.std.proofs.Common.{ap, sym, subst, ◌∙◌, arith, pos, []}
+use Rattle.std.proofs.lemmas.Int.{ints}
+use Rattle.std.proofs.lemmas.Result.{IfOk-weaker}
+use Rattle.fd_program.specs.declared.loop_facts.HomeRule.TheVariants.{Owner}
+use Rattle.inspect_tests.specs.Examples.{IsExample, facts_with, shifting_example}
+use Rattle.inspect_tests.proofs.inspect.shifting_facts.Goals as goal
+
+pub returns-clause-example : goal.returns-clause-example
+returns-clause-example c =
+    IfOk-weaker c.facts.result _ _ (λ f e. subst IsExample (sym (e ∙ ap (λ s. facts_with 4 s (pos 3) c.args.adds.now c.args.nodes Owner) c.in_ok-site.ensures))
+    (shifting_example 4 (pos 3) c.args.adds.now c.args.nodes (omega arith) (omega arith) (omega (arith, ints)) c.requires.some c.requires.few Owner)) c.facts.ensures
