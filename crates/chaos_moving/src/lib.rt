@@ -5,6 +5,7 @@
 #![tactic(auto)]
 
 mod asks;
+mod copies;
 mod counts;
 mod laws;
 mod moving;

@@ -1,0 +1,4 @@
+pub mod Rows
+pub mod Ghosts
+pub mod Counts
+pub mod InRun
