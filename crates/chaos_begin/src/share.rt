@@ -1,0 +1,143 @@
+ghost use Rattle.std.specs.Prelude.{◌≡◌, ◌<◌, ◌≤◌, ◌++◌, ◌∷◌, [], ◌==◌, true, false, if◌then◌else◌, filter, length, map, IfOk, OnOk, MatchOption};
+ghost use Rattle.std.specs.List.{list_all};
+ghost use Rattle.chaos_dist.specs.Counting.{below};
+ghost use Rattle.fd_words.specs.Lists.{list_at};
+ghost use Rattle.fd_program.specs.Places.{decomposition_of};
+ghost use Rattle.fd_program.specs.Stores.{array_at};
+ghost use Rattle.chaos_begin.specs.Begins.{IsShareOf, IsSound, has_share, is_element};
+ghost use Rattle.fd_program.specs.Checks.{layout_extent};
+
+use crate::Between;
+use chaos_moving::Share;
+use fd_program::ArrayFacts;
+use fd_words::{Memory, Name, NumberLists, Numbers};
+use std::alloc::Global;
+
+/// A copy of the list at a place; no number from the end on.
+pub fn copy_at(alloc: Global, lists: &NumberLists, at: u32) -> Result<Numbers, Memory>
+    ensures { IfOk result (λ list. list ≡ list_at lists.now at) }
+{
+    match lists.get(u64::from(at)) {
+        Some(list) => list.copy(alloc),
+        None => Ok(Numbers::new(alloc)),
+    }
+}
+
+/// The array with a number; one without elements where there is none.
+pub fn facts_at(arrays: &[ArrayFacts], array: u32) -> ArrayFacts
+    ensures { result ≡ array_at arrays.now array }
+{
+    match arrays.get(array as usize) {
+        Some(facts) => *facts,
+        None => ArrayFacts {
+            name: Name::new(),
+            extent: 0,
+            decomposition: 0,
+            offset: 0,
+        },
+    }
+}
+
+fn is_element(extent: u64, number: i64) -> bool
+    ensures { result ≡ is_element extent number }
+{
+    1 <= number && i128::from(number) <= i128::from(extent)
+}
+
+fn are_elements(extent: u64, numbers: &[i64]) -> bool
+    ensures { result ≡ list_all (is_element extent) numbers.now }
+{
+    numbers.iter().all(|number| is_element(extent, *number))
+}
+
+fn add_if(
+    alloc: Global,
+    pieces: &mut NumberLists,
+    is: bool,
+    lists: &NumberLists,
+    array: u32,
+) -> Result<(), Memory>
+    ensures { OnOk result (pieces.new ≡ pieces.old ++ (if is then list_at lists.now array ∷ [] else [])) }
+{
+    if is {
+        pieces.push(copy_at(alloc, lists, array)?)?;
+    }
+    Ok(())
+}
+
+/// The lists of the arrays of a decomposition.
+fn pieces(
+    alloc: Global,
+    arrays: &[ArrayFacts],
+    count: u32,
+    lists: &NumberLists,
+    d: u32,
+) -> Result<NumberLists, Memory>
+    ensures { IfOk result (λ pieces. pieces ≡ map (λ array. list_at lists.now array) (filter (λ array. decomposition_of arrays.now array == d) (below count))) }
+{
+    let mut pieces = NumberLists::new(alloc);
+    for array in 0..count {
+        let is = facts_at(arrays, array).decomposition == d;
+        add_if(alloc, &mut pieces, is, lists, array)?;
+    }
+    Ok(pieces)
+}
+
+fn share(
+    alloc: Global,
+    between: &Between,
+    d: u32,
+    extent: u64,
+    elements: Numbers,
+) -> Result<Share, Memory>
+    requires sound { IsSound between.now }
+    requires there { d < length between.now.checked.now.layouts }
+    requires some { 1 ≤ extent }
+    requires few { extent ≤ 1048576 }
+    requires elements { elements ≡ list_at between.now.elements.now d }
+    requires within { list_all (is_element extent) elements ≡ true }
+    ensures { IfOk result (IsShareOf between.now d extent) }
+{
+    let arrays = between.checked.arrays.as_slice();
+    let pieces = pieces(alloc, arrays, arrays.len() as u32, between.parts, d)?;
+    Ok(Share {
+        me: between.me,
+        nodes: between.nodes,
+        decomposition: d,
+        extent,
+        elements,
+        pieces,
+    })
+}
+
+fn share_within(
+    alloc: Global,
+    between: &Between,
+    d: u32,
+    extent: u64,
+) -> Result<Option<Share>, Memory>
+    requires sound { IsSound between.now }
+    requires there { d < length between.now.checked.now.layouts }
+    requires some { 1 ≤ extent }
+    requires few { extent ≤ 1048576 }
+    ensures { IfOk result (λ o. MatchOption o (list_all (is_element extent) (list_at between.now.elements.now d) ≡ false) (IsShareOf between.now d extent)) }
+{
+    let elements = copy_at(alloc, between.elements, d)?;
+    if !are_elements(extent, elements.as_slice()) {
+        return Ok(None);
+    }
+    let share = share(alloc, between, d, extent, elements)?;
+    Ok(Some(share))
+}
+
+/// What the node has of a decomposition; none where there is no such decomposition, or what is held of it
+/// aren't elements. Linear in what is held of it, and in the arrays.
+pub fn share_of(alloc: Global, between: &Between, d: u32) -> Result<Option<Share>, Memory>
+    requires { IsSound between.now }
+    ensures { IfOk result (λ o. MatchOption o (has_share between.now d ≡ false) (IsShareOf between.now d (layout_extent between.now.checked.now.layouts d))) }
+{
+    match between.checked.layouts.get(d as usize) {
+        None => Ok(None),
+        Some(layout) => share_within(alloc, between, d, layout.extent),
+    }
+}
