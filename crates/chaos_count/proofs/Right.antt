@@ -28,7 +28,8 @@ use Rattle.chaos_records.specs.declared.setting.Setting.{Setting}
 use Rattle.chaos_run.specs.LeftLaws.{length-before}
 use Rattle.chaos_run.specs.Phases.{loop_stages, moving_stages, stages_of, phases_from}
 use Rattle.chaos_run.specs.RowLaws.{length-outputs}
-use Rattle.chaos_count.specs.Counting.{latest_at, loop_count, inspection_count, moving_count, stage_count, nothing_known, moved_in, known_after, known_after_loop, noted, count_from}
+use Rattle.chaos_count.specs.Counting.{latest_at, loop_count, inspection_count, moving_count, stage_count, nothing_known, moved_in, known_after, known_after_loop, count_from}
+use Rattle.chaos_count.specs.Noting.{targets_are_noted}
 use Rattle.chaos_count.specs.declared.known.Known.{Known}
 use Rattle.chaos_count.proofs.Stages.{inspection_is}
 use Rattle.chaos_count.proofs.Steps.{IsStepIn, steps_are_in}
@@ -41,32 +42,6 @@ latest_record c past site = option_map (λ (latest, before). record_at c before 
 record Knows (c : Checked) (past : List Step) (k : Known) : Type 0 where
   records : Keeps c past k.records
   latest : k.latest ≡ map (latest_record c past) (below (length c.sites))
-
--- ---- the targets of a FORALL
-
-abbrev targets_in : List Reference → List ℕ
-targets_in [] = []
-targets_in (x ∷ xs) = if is_target x.role then x.array ∷ targets_in xs else targets_in xs
-
-fold_targets : (execution : ℕ) (r : Records) (xs : List Reference) → fold (noted execution) r xs ≡ fold (written execution) r (targets_in xs)
-fold_targets execution r [] = refl
-fold_targets execution r (x ∷ xs) = by (is_target x.role) (λ r. fold_targets execution r xs)
-  where
-    by : (b : Bool) → ((r : Records) → fold (noted execution) r xs ≡ fold (written execution) r (targets_in xs))
-        → fold (noted execution) (if b then written execution r x.array else r) xs ≡ fold (written execution) r (if b then x.array ∷ targets_in xs else targets_in xs)
-    by true rest = rest (written execution r x.array)
-    by false rest = rest r
-
-targets_same : (array : ℕ) (xs : List Reference)
-    → list_any (λ a. a == array) (targets_in xs) ≡ list_any (λ (x : Reference). is_target x.role && (x.array == array)) xs
-targets_same array [] = refl
-targets_same array (x ∷ xs) = by (is_target x.role) (targets_same array xs)
-  where
-    by : (b : Bool) → list_any (λ a. a == array) (targets_in xs) ≡ list_any (λ (x : Reference). is_target x.role && (x.array == array)) xs
-        → list_any (λ a. a == array) (if b then x.array ∷ targets_in xs else targets_in xs)
-        ≡ ((b && (x.array == array)) || list_any (λ (x : Reference). is_target x.role && (x.array == array)) xs)
-    by true rest = ap (λ t. (x.array == array) || t) rest
-    by false rest = rest
 
 -- ---- numbers and tests
 
@@ -131,10 +106,7 @@ module _ (new : NewKeeps) (print : PrintKeeps) (writes : WritesKeep) (moves : Mo
   known_loop : (past : List Step) (k : Known) (site : ℕ) (turn : LoopTurn) → Knows c past k → is_empty_turn turn ≡ false
       → Knows c (Forall site turn ∷ past) (known_after_loop (length past) k c site turn)
   known_loop past k site turn known some = record {
-    records = subst (Keeps c (Forall site turn ∷ past)) (sym (fold_targets (length past) k.records (site_at c.sites site).references))
-        (writes c past site turn (targets_in (site_at c.sites site).references) k.records known.records
-        (λ array within. targets_same array (site_at c.sites site).references
-        ∙ sym (ap (λ b. not b && has_target (site_at c.sites site) array) some)));
+    records = targets_are_noted writes c past site turn k.records known.records some;
     latest = ap (λ l. slice_set l site (Some (record_in k.records c site turn))) known.latest
         ∙ set_below (latest_record c past) (Some (record_in k.records c site turn)) (length c.sites) site
         ∙ same_map (λ d. if site == d then Some (record_in k.records c site turn) else latest_record c past d) (latest_record c (Forall site turn ∷ past)) 0 (length c.sites)

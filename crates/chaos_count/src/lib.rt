@@ -10,3 +10,4 @@ mod noting;
 
 pub use count::phases_of;
 pub use laws::counts_are_right;
+pub use noting::note_writes;

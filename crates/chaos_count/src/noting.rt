@@ -36,7 +36,7 @@ pub(crate) fn note_move(records: &mut Records, decomposition: u32, form: StepFor
 }
 
 /// Notes that an execution of a FORALL with these references changes its targets.
-pub(crate) fn note_writes(records: &mut Records, references: &[Reference], execution: u64)
+pub fn note_writes(records: &mut Records, references: &[Reference], execution: u64)
     requires { execution < 2 ^ 32 }
     ensures { records.new ≡ fold (noted execution) records.old references.now }
 {

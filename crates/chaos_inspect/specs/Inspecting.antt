@@ -143,6 +143,12 @@ Follows f phase stage = (offence_in stage ≡ None) × (phase_of stage ≡ phase
 abbrev pub IsNext : LoopFacts → Stage → Stage → Type 0
 IsNext f before after = phase_of after ≡ (if is_some (offence_in after) then None else option_and_then (phase_after f) (phase_of before))
 
+-- the vote alone tells an offence
+abbrev pub IsVoted : Stage → Stage → Type 0
+IsVoted Voting after = Unit {0}
+IsVoted (Refused offence) after = Unit {0}
+IsVoted before after = offence_in after ≡ None
+
 -- ---- the end
 
 abbrev pub IsReady : Stage → Type 0

@@ -13,7 +13,7 @@ ghost use Rattle.chaos_reach.specs.Accepted.{AreOwners, IsAccepted};
 ghost use Rattle.chaos_hash.specs.Stamps.{Stamps};
 ghost use Rattle.chaos_phases.specs.Fits.{Fits};
 ghost use Rattle.chaos_prepare.specs.Tables.{HasPlaces, IsEntered, KeepsOtherStamps, slots_of};
-ghost use Rattle.chaos_inspect.specs.Inspecting.{Follows, HasNoOffence, HasSpots, HasValues, IsDue, IsInspecting, IsNext, IsOwed, IsReady, IsSeeking, first_phase, first_stage, prepared_in, offence_in, phase_of};
+ghost use Rattle.chaos_inspect.specs.Inspecting.{Follows, HasNoOffence, HasSpots, HasValues, IsDue, IsInspecting, IsNext, IsOwed, IsReady, IsSeeking, IsVoted, first_phase, first_stage, prepared_in, offence_in, phase_of};
 ghost use Rattle.chaos_inspect.specs.declared.stage.Stage.TheVariants as stage;
 ghost use Rattle.chaos_inspect.specs.Met.{places_asked, rows_of};
 
@@ -541,6 +541,7 @@ impl Inspection {
         ensures me { self.new.me ≡ self.old.me }
         ensures err { OnErr result (self.new ≡ self.old) }
         ensures next { OnOk result (IsNext self.old.facts self.old.stage self.new.stage) }
+        ensures votes { OnOk result (IsVoted self.old.stage self.new.stage) }
         ensures inspecting { OnOk result ((owners : List (List ℕ)) (store : List (List ℤ)) → IsInspecting self.old owners store tables.old
             → IsOwed self.old owners store taken.now → IsInspecting self.new owners store tables.new) }
         ensures places { (owners : List (List ℕ)) (store : List (List ℤ)) → IsInspecting self.old owners store tables.old
