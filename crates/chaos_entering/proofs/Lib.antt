@@ -1,0 +1,6 @@
+pub mod EnterPrints
+pub mod Finding
+pub mod GroupLaws
+pub mod Sent
+pub mod StageSteps
+pub mod StepEntered

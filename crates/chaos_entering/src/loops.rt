@@ -1,0 +1,355 @@
+ghost use Rattle.std.specs.Prelude.{◌≡◌, ℕ, ◌≤◌, ◌<◌, ◌^◌, ◌∷◌, [], List, Some, false, length, map, IfOk, IfSome};
+ghost use Rattle.fd_words.specs.Lists.{list_at};
+ghost use Rattle.fd_program.specs.Layouts.{loop_at};
+ghost use Rattle.fd_program.specs.Trace.{is_empty_turn};
+ghost use Rattle.fd_program.specs.declared.trace.LoopTurn.{LoopTurn as ATurn};
+ghost use Rattle.fd_program.specs.declared.trace.Step.{Step as AStep};
+ghost use Rattle.fd_program.specs.declared.trace.Step.TheVariants.{Distribute, Forall};
+ghost use Rattle.chaos_dist.specs.declared.step_form.StepForm.{StepForm as AForm};
+ghost use Rattle.chaos_executing.specs.InRun.{CanExecute, IsExecuting};
+ghost use Rattle.chaos_inspect.specs.Inspecting.{phase_of};
+ghost use Rattle.chaos_phases.specs.declared.loop_phase.LoopPhase.{LoopPhase as APhase};
+ghost use Rattle.chaos_reach.specs.Accepted.{IsAccepted};
+ghost use Rattle.chaos_phases.specs.declared.loop_phase.LoopPhase.TheVariants as phase;
+ghost use Rattle.chaos_places.specs.Places.{left_in};
+ghost use Rattle.chaos_run.specs.Rows.{IsRunPlan, RunPlan, scene_in};
+ghost use Rattle.chaos_run.specs.declared.stage.Stage.{Stage as AStage};
+ghost use Rattle.chaos_run.specs.declared.stage.Stage.TheVariants as stage;
+ghost use Rattle.chaos_entering.specs.Behind.{stages_behind};
+ghost use Rattle.chaos_entering.specs.Coming.{CanStand, IsComing, IsRight, KnowsLengths};
+ghost use Rattle.chaos_entering.specs.Entering.{ArePosted, naming_in};
+ghost use Rattle.chaos_entering.specs.Sending.{IsSomeOk, IsStagedBy, SendsInspecting, SendsMoving, SendsScattered};
+ghost use Rattle.chaos_entering.specs.declared.activity.Activity.TheVariants.{Moving as Moves, Inspecting, Scattering};
+ghost use Rattle.chaos_holdings.specs.Keeping.{prepared_in};
+ghost use Rattle.chaos_entering.specs.Standing.{GoesOnInspecting, GoesOnMoving, session_in};
+ghost use Rattle.chaos_entering.specs.State.{NodeState};
+
+use crate::activity::Activity;
+use crate::enter_prints::enter_end;
+use crate::entered::{Entered, Posted, entered_by, post};
+use crate::groups::group;
+use crate::sizes::{counts, own_of, sizes_of};
+use chaos_asking::PageSet;
+use chaos_executing::{
+    Executing, gather_counts, gather_lists, letters_have_counts, scatter_counts, scatter_lists,
+};
+use chaos_holdings::Session;
+use chaos_inspect::Inspection;
+use chaos_moving::Moving;
+use chaos_phases::LoopPhase;
+use chaos_places::Naming;
+use chaos_run::Stage;
+use chaos_sched::Prepared;
+use fd_words::{Memory, NumberLists, Numbers};
+use sqlite_items::Items;
+use std::alloc::Global;
+
+/// What the letters of a stage name, and in which groups their numbers come.
+fn naming(session: &Session, stage: Stage, execution: u64, site: u32) -> Naming
+    ensures { result ≡ naming_in session.now.checked stage execution site }
+{
+    Naming {
+        stage,
+        execution,
+        site,
+        group: group(&session.checked, stage, site),
+    }
+}
+
+/// The lists of a stage in which all nodes send to all: the node's own, how long each is, and the letters.
+#[derive(Drop)]
+struct Staged {
+    own: Numbers,
+    sizes: Items<u64>,
+    posted: Posted,
+}
+
+/// A stage in which all nodes send to all, with these lists.
+fn enter_stage(
+    alloc: Global,
+    session: &Session,
+    me: u32,
+    naming: Naming,
+    lists: &NumberLists,
+    counts: &[u64],
+) -> Result<Staged, Memory>
+    ensures own { IfOk result (λ x. x.own ≡ list_at lists.now me) }
+    ensures sizes { IfOk result (λ x. x.sizes ≡ map length lists.now) }
+    ensures posted { IfOk result (λ x. ArePosted naming me session.now.nodes lists.now counts.now x.posted) }
+{
+    let own = own_of(alloc, lists, me)?;
+    let sizes = sizes_of(alloc, lists)?;
+    let posted = post(alloc, naming, me, session.nodes, lists, counts)?;
+    Ok(Staged {
+        own,
+        sizes: Items::from_vec(sizes),
+        posted,
+    })
+}
+
+/// Such a stage with what the node does in it.
+fn stage_with(naming: Naming, activity: Activity, left: u32, sent: Staged) -> Entered
+    ensures { IsStagedBy naming activity left sent result }
+{
+    let Staged { own, sizes, posted } = sent;
+    entered_by(naming, activity, own, sizes, left, posted)
+}
+
+/// The next stage of a move; `sizes` has the lengths of the lists that were sent in the stage before.
+pub fn enter_move(
+    alloc: Global,
+    session: &Session,
+    me: u32,
+    execution: u64,
+    moving: Moving,
+    sizes: &[u64],
+    left: u32,
+) -> Result<Entered, Memory>
+    requires left { left < 2 ^ 31 }
+    ensures made { IfOk result (CanStand me session.now.nodes) }
+    ensures falls { IfOk result (λ e. e.left ≤ left) }
+    ensures right { IfOk result (λ e. (plan : RunPlan) (past rest : List AStep) (form : AForm) (now : AStage) (more : List AStage) (st : NodeState) → IsRunPlan plan → session.now ≡ session_in plan
+        → execution ≡ length past → IsComing plan past (Distribute moving.share.decomposition form) rest now more me left st
+        → GoesOnMoving plan past moving.share.decomposition form now more me moving
+        → KnowsLengths plan past (Distribute moving.share.decomposition form) now me sizes.now
+        → IsRight plan (left_in plan past (Distribute moving.share.decomposition form) rest (now ∷ more)) me e st) }
+{
+    match moving.stage() {
+        Some(stage) => {
+            let naming = naming(session, stage, execution, moving.share.decomposition);
+            let sent = move_sends(alloc, session, me, naming, &moving, sizes);
+            moves_on(naming, moving, left, sent)
+        }
+        None => moved(alloc, execution, moving),
+    }
+}
+
+/// What is sent in the next stage of a move.
+fn move_sends(
+    alloc: Global,
+    session: &Session,
+    me: u32,
+    naming: Naming,
+    moving: &Moving,
+    sizes: &[u64],
+) -> Result<Staged, Memory>
+    ensures { IfOk result (SendsMoving session.now naming me moving.now sizes.now) }
+{
+    let lists = moving.outgoing(alloc)?;
+    let counts = counts(alloc, naming.stage, session.nodes, sizes)?;
+    enter_stage(alloc, session, me, naming, &lists, counts.as_slice())
+}
+
+/// The stage with these letters, if there was memory for them.
+fn moves_on(
+    naming: Naming,
+    moving: Moving,
+    left: u32,
+    sent: Result<Staged, Memory>,
+) -> Result<Entered, Memory>
+    ensures { IfOk result (λ e. IsSomeOk sent (λ x. IsStagedBy naming (Moves moving) left x e)) }
+{
+    match sent {
+        Ok(sent) => Ok(stage_with(naming, Activity::Moving(moving), left, sent)),
+        Err(Memory) => without_move(moving),
+    }
+}
+
+fn without_move(_moving: Moving) -> Result<Entered, Memory>
+    ensures { IfOk result (λ e. ⊥) }
+{
+    Err(Memory)
+}
+
+/// No stage is due.
+fn moved(alloc: Global, execution: u64, _moving: Moving) -> Result<Entered, Memory>
+    ensures left { IfOk result (λ e. e.left ≡ 0) }
+    ensures begins { IfOk result (λ e. e.begins ≡ false) }
+    ensures stands { IfOk result (λ e. (me nodes : ℕ) → CanStand me nodes e) }
+{
+    Ok(enter_end(alloc, execution))
+}
+
+/// The next phase of an inspection; `sizes` has the lengths of the lists that were sent in the phase before.
+pub fn enter_inspection(
+    alloc: Global,
+    session: &Session,
+    me: u32,
+    execution: u64,
+    site: u32,
+    inspection: Inspection,
+    parts: &NumberLists,
+    pages: &PageSet,
+    sizes: &[u64],
+    left: u32,
+) -> Result<Entered, Memory>
+    requires accepted { IsAccepted inspection.facts }
+    requires left { left < 2 ^ 31 }
+    ensures made { IfOk result (CanStand me session.now.nodes) }
+    ensures falls { IfOk result (λ e. e.left ≤ left) }
+    ensures begins { IfOk result (λ e. e.begins ≡ false) }
+    ensures placed { IfOk result (λ e. IfSome (phase_of inspection.stage) (λ l. (e.at.execution ≡ execution) × (e.at.site ≡ site))) }
+    ensures right { IfOk result (λ e. (plan : RunPlan) (past rest : List AStep) (turn : ATurn) (present : APhase) (st : NodeState) → IsRunPlan plan → session.now ≡ session_in plan
+        → execution ≡ length past → IsComing plan past (Forall site turn) rest (stage.InLoop present) (stages_behind (loop_at (scene_in plan) past site turn) present) me left st
+        → GoesOnInspecting plan past site turn present me st.holdings.tables inspection → parts.now ≡ st.holdings.parts → pages.now ≡ st.holdings.pages
+        → KnowsLengths plan past (Forall site turn) (stage.InLoop present) me sizes.now
+        → IsRight plan (left_in plan past (Forall site turn) rest (stage.InLoop present ∷ stages_behind (loop_at (scene_in plan) past site turn) present)) me e st) }
+{
+    match inspection.phase() {
+        Some(phase) => {
+            let naming = naming(session, Stage::InLoop(phase), execution, site);
+            let sent = inspection_sends(
+                alloc,
+                session,
+                me,
+                naming,
+                &inspection,
+                parts,
+                pages,
+                sizes,
+            );
+            inspecting(naming, inspection, left, sent)
+        }
+        None => inspected(alloc, execution, inspection),
+    }
+}
+
+/// What an inspection sends in its next phase.
+fn inspection_sends(
+    alloc: Global,
+    session: &Session,
+    me: u32,
+    naming: Naming,
+    inspection: &Inspection,
+    parts: &NumberLists,
+    pages: &PageSet,
+    sizes: &[u64],
+) -> Result<Staged, Memory>
+    requires { IsAccepted inspection.now.facts }
+    ensures { IfOk result (SendsInspecting session.now naming me inspection.now parts.now pages.now sizes.now) }
+{
+    let lists = inspection.outgoing(alloc, parts, pages)?;
+    let counts = counts(alloc, naming.stage, session.nodes, sizes)?;
+    enter_stage(alloc, session, me, naming, &lists, counts.as_slice())
+}
+
+/// The phase with these letters, if there was memory for them.
+fn inspecting(
+    naming: Naming,
+    inspection: Inspection,
+    left: u32,
+    sent: Result<Staged, Memory>,
+) -> Result<Entered, Memory>
+    ensures { IfOk result (λ e. IsSomeOk sent (λ x. IsStagedBy naming (Inspecting inspection) left x e)) }
+{
+    match sent {
+        Ok(sent) => Ok(stage_with(naming, Activity::Inspecting(inspection), left, sent)),
+        Err(Memory) => without_inspection(inspection),
+    }
+}
+
+fn without_inspection(_inspection: Inspection) -> Result<Entered, Memory>
+    ensures { IfOk result (λ e. ⊥) }
+{
+    Err(Memory)
+}
+
+/// No phase is due.
+fn inspected(alloc: Global, execution: u64, _inspection: Inspection) -> Result<Entered, Memory>
+    ensures left { IfOk result (λ e. e.left ≡ 0) }
+    ensures begins { IfOk result (λ e. e.begins ≡ false) }
+    ensures stands { IfOk result (λ e. (me nodes : ℕ) → CanStand me nodes e) }
+{
+    Ok(enter_end(alloc, execution))
+}
+
+/// The phase in which the ghosts of an execution are gathered.
+pub fn enter_gather(
+    alloc: Global,
+    session: &Session,
+    me: u32,
+    execution: u64,
+    site: u32,
+    prepared: &Prepared,
+    parts: &NumberLists,
+    left: u32,
+) -> Result<Entered, Memory>
+    requires left { left < 2 ^ 31 }
+    ensures made { IfOk result (CanStand me session.now.nodes) }
+    ensures falls { IfOk result (λ e. e.left ≤ left) }
+    ensures right { IfOk result (λ e. (plan : RunPlan) (past rest : List AStep) (turn : ATurn) (st : NodeState) → IsRunPlan plan → session.now ≡ session_in plan
+        → execution ≡ length past → IsComing plan past (Forall site turn) rest (stage.InLoop phase.Gather) (stage.InLoop phase.Scatter ∷ []) me left st
+        → is_empty_turn turn ≡ false → prepared_in st.holdings.kept site ≡ Some prepared.now → CanExecute (scene_in plan) past site turn me st.holdings.tables prepared.now
+        → parts.now ≡ st.holdings.parts
+        → IsRight plan (left_in plan past (Forall site turn) rest (stage.InLoop phase.Gather ∷ stage.InLoop phase.Scatter ∷ [])) me e st) }
+{
+    letters_have_counts();
+    let stage = Stage::InLoop(LoopPhase::Gather);
+    let naming = naming(session, stage, execution, site);
+    let lists = gather_lists(alloc, prepared, parts)?;
+    let counts = gather_counts(alloc, prepared)?;
+    let sent = enter_stage(alloc, session, me, naming, &lists, counts.as_slice())?;
+    Ok(stage_with(naming, Activity::Gathering, left, sent))
+}
+
+/// The phase in which its contributions are scattered.
+pub fn enter_scatter(
+    alloc: Global,
+    session: &Session,
+    me: u32,
+    execution: u64,
+    site: u32,
+    prepared: &Prepared,
+    executing: Executing,
+    left: u32,
+) -> Result<Entered, Memory>
+    requires left { left < 2 ^ 31 }
+    ensures made { IfOk result (CanStand me session.now.nodes) }
+    ensures falls { IfOk result (λ e. e.left ≤ left) }
+    ensures right { IfOk result (λ e. (plan : RunPlan) (past rest : List AStep) (turn : ATurn) (st : NodeState) → IsRunPlan plan → session.now ≡ session_in plan
+        → execution ≡ length past → IsComing plan past (Forall site turn) rest (stage.InLoop phase.Scatter) [] me left st
+        → is_empty_turn turn ≡ false → prepared_in st.holdings.kept site ≡ Some prepared.now → IsExecuting (scene_in plan) past site turn me st.holdings.tables prepared.now executing
+        → IsRight plan (left_in plan past (Forall site turn) rest (stage.InLoop phase.Scatter ∷ [])) me e st) }
+{
+    let naming = naming(session, Stage::InLoop(LoopPhase::Scatter), execution, site);
+    let sent = scatter_sends(alloc, session, me, naming, prepared, &executing);
+    scattering(naming, executing, left, sent)
+}
+
+/// What is sent as contributions are scattered.
+fn scatter_sends(
+    alloc: Global,
+    session: &Session,
+    me: u32,
+    naming: Naming,
+    prepared: &Prepared,
+    executing: &Executing,
+) -> Result<Staged, Memory>
+    ensures { IfOk result (SendsScattered session.now naming me prepared.now executing.now) }
+{
+    letters_have_counts();
+    let lists = scatter_lists(alloc, prepared, executing)?;
+    let counts = scatter_counts(alloc, prepared)?;
+    enter_stage(alloc, session, me, naming, &lists, counts.as_slice())
+}
+
+/// The phase with these letters, if there was memory for them.
+fn scattering(
+    naming: Naming,
+    executing: Executing,
+    left: u32,
+    sent: Result<Staged, Memory>,
+) -> Result<Entered, Memory>
+    ensures { IfOk result (λ e. IsSomeOk sent (λ x. IsStagedBy naming (Scattering executing) left x e)) }
+{
+    match sent {
+        Ok(sent) => Ok(stage_with(naming, Activity::Scattering(executing), left, sent)),
+        Err(Memory) => without_execution(executing),
+    }
+}
+
+fn without_execution(_executing: Executing) -> Result<Entered, Memory>
+    ensures { IfOk result (λ e. ⊥) }
+{
+    Err(Memory)
+}
