@@ -29,4 +29,9 @@ for turns in 4 40; do
 	measure "sweep, $turns steps, half size" "$work/half-$turns" sweep.fd --plain
 	measure "sweep, $turns steps" "$work/sweep-$turns" sweep.fd --plain
 done
-measure "mesh of 100000 points" "$work" --mesh 7 --size 100000 --plain
+for size in 50000 100000; do
+	measure "mesh of $size points" "$work" --mesh 7 --size $size --plain
+	for nodes in 1 4 16; do
+		measure "mesh of $size points, $nodes nodes" "$work" --mesh 7 --size $size --nodes $nodes
+	done
+done

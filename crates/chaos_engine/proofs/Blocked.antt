@@ -15,7 +15,7 @@ use Rattle.fd_program.specs.Places.{part_of, value_on}
 use Rattle.fd_program.specs.Stores.{array_at}
 use Rattle.fd_program.specs.declared.array.ArrayFacts.{ArrayFacts}
 use Rattle.fd_program.specs.declared.array.LayoutName.{LayoutName}
-use Rattle.chaos_node.specs.Starting.{block_owners}
+use Rattle.chaos_holdings.specs.Starting.{block_owners}
 
 -- one number more, gone through
 pub map-below-one : {A : Type 0} (f : ℕ → A) (k : ℕ) (xs ys : List A) (x : A) → xs ≡ map f (below k) → x ≡ f k → ys ≡ xs ++ x ∷ [] → ys ≡ map f (below (k + 1))

@@ -1,11 +1,11 @@
 -- A session that can be run, and what playing its nodes in an order is.
-use Rattle.std.specs.Prelude.{◌≡◌, ℕ, ◌+◌, ◌^◌, ◌<◌, ◌≤◌, ℤ, List, [], length, map}
+use Rattle.std.specs.Prelude.{◌≡◌, ℕ, ◌<◌, ◌≤◌, ℤ, List, [], length, map}
 use Rattle.bsp_core.specs.Turns.{Begins, Draws, Plays, WorldState, rounds}
 use Rattle.bsp_core.specs.Views.{View}
 use Rattle.chaos_letter.specs.declared.letter.Letter.{Letter}
-use Rattle.chaos_node.specs.Plans.{ArePrints, node_holds}
-use Rattle.chaos_node.specs.State.{NodeState}
-use Rattle.chaos_node.specs.declared.session.Session.{Session}
+use Rattle.chaos_entering.specs.Standing.{node_holds}
+use Rattle.chaos_entering.specs.State.{NodeState}
+use Rattle.chaos_holdings.specs.declared.session.Session.{Session}
 use Rattle.chaos_run.specs.Limits.{IsWithin}
 use Rattle.chaos_run.specs.Rows.{RunPlan, node_row}
 use Rattle.fd_program.specs.Checks.{IsChecked}
@@ -17,7 +17,7 @@ use Rattle.chaos_engine.specs.declared.turns.Order.TheVariants.{RoundRobin, Seed
 abbrev pub plan_of : Session → List (List ℤ) → RunPlan
 plan_of s store = record { checked = s.checked; nodes = s.nodes; rule = s.rule; store = store }
 
--- A checked program within its limits, its trace, one to sixteen nodes and a store that fits. As yet each step is a PRINT.
+-- a checked program within its limits, its trace, one to sixteen nodes and a store that fits
 pub record IsAdmitted (s : Session) (store : List (List ℤ)) : Type 0 where
   pub some : 0 < s.nodes
   pub few : s.nodes ≤ 16
@@ -25,7 +25,6 @@ pub record IsAdmitted (s : Session) (store : List (List ℤ)) : Type 0 where
   pub within : IsWithin s.checked
   pub trace : s.trace ≡ trace_of s.checked
   pub fits : FitsStore s.checked.arrays store
-  pub prints : ArePrints (trace_of s.checked)
 
 -- turns in this order lead from a World to another
 abbrev pub Turns : Order → WorldState (View NodeState) → WorldState (View NodeState) → Type 0

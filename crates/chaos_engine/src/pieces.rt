@@ -4,10 +4,10 @@ ghost use Rattle.fd_program.specs.Checks.{layout_extent};
 ghost use Rattle.fd_program.specs.Places.{decomposition_of, part_of, parts_of, value_on};
 ghost use Rattle.fd_program.specs.Stores.{array_at, number_at};
 ghost use Rattle.fd_words.specs.Lists.{list_at};
-ghost use Rattle.chaos_node.specs.Starting.{block_owners};
+ghost use Rattle.chaos_holdings.specs.Starting.{block_owners};
 
 use chaos_dist::{Regular, Shape};
-use chaos_node::Session;
+use chaos_holdings::Session;
 use fd_program::{ArrayFacts, ArrayList, Checked, LayoutNames, Store};
 use fd_words::{Memory, NumberLists, Numbers};
 use sqlite_items::Items;

@@ -1,17 +1,19 @@
 //! A node of a session: it goes through the phases of a program.
+//!
+//! At the end of a phase the node prepares all that changes, and only then puts it in place, so that where
+//! memory is wanting nothing has changed.
 #![tactic(auto)]
 
-mod cursor;
-mod entering;
+mod change;
+mod commit;
+mod executions;
+mod inspections;
 mod laws;
+mod moves;
 mod node;
-mod places;
-mod printing;
-mod session;
-mod stages;
+mod phased;
+mod prints;
 mod starting;
 
-pub use cursor::{Cursor, Printing};
-pub use laws::{nodes_are_at, nodes_end_with_the_text, nodes_go_on};
+pub use laws::nodes_end_with_the_run;
 pub use node::Node;
-pub use session::{NodeEnd, Session};

@@ -1,87 +1,169 @@
-ghost use Rattle.std.specs.Prelude.{◌≡◌, ◌+◌, ◌^◌, ◌<◌, ◌≤◌, All, length, map, pos, replicate, IfOk};
-ghost use Rattle.chaos_dist.specs.Owners.{elements_on, regular_owners};
-ghost use Rattle.chaos_dist.specs.declared.shape.Shape.TheVariants.{Block};
-ghost use Rattle.fd_program.specs.Checks.{IsExtent};
-ghost use Rattle.fd_program.specs.Reports.{no_count};
-ghost use Rattle.fd_program.specs.declared.array.LayoutName.{LayoutName as ALayout};
-ghost use Rattle.chaos_node.specs.Places.{IsShort};
-ghost use Rattle.chaos_node.specs.Starting.{block_elements};
+ghost use Rattle.std.specs.Prelude.{◌≡◌, ◌^◌, ◌<◌, ◌≤◌, [], true, length, ◌↔◌, IfOk, IfSome, IsSome};
+ghost use Rattle.chaos_entering.specs.Coming.{CanStand, face_of, noted};
+ghost use Rattle.chaos_places.specs.Places.{whole_from};
+ghost use Rattle.chaos_holdings.specs.Starting.{block_owners};
+ghost use Rattle.bsp_core.specs.Views.{next_of};
+ghost use Rattle.bsp_core.specs.declared.phased.Want.TheVariants.{Done};
+ghost use Rattle.fd_program.specs.Checks.{IsChecked};
+ghost use Rattle.fd_program.specs.Places.{parts_of};
+ghost use Rattle.chaos_run.specs.Rows.{IsRunPlan, RunPlan, node_row};
+ghost use Rattle.chaos_entering.specs.Standing.{node_holds, session_in};
 
-use crate::Session;
-use chaos_dist::{Regular, Shape};
-use fd_program::{LayoutNames, SiteCount, SiteCounts};
-use fd_words::{Memory, NumberLists, Numbers};
-use sqlite_items::Items;
+use crate::node::Node;
+use bsp_core::Want;
+use chaos_begin::Between;
+use chaos_count::phases_of;
+use chaos_entering::{Entered, enter_next};
+use chaos_holdings::{Holdings, NodeEnd, Session, counts_of_none, first_holdings};
+use fd_words::{Bytes, Memory, NumberLists, Numbers};
 use std::alloc::Global;
 
-/// The elements of a decomposition in blocks that stand on a node.
-fn elements_of_block(alloc: Global, extent: u64, nodes: u32, node: u32) -> Result<Numbers, Memory>
-    requires some { 1 ≤ extent }
-    requires most { extent ≤ 1048576 }
-    requires few { nodes ≤ 16 }
-    requires node { node < nodes }
-    ensures { IfOk result (λ numbers. numbers ≡ map pos (elements_on (regular_owners Block extent nodes) node)) }
+/// How many phases can come, where there are fewer than 2^31.
+fn phases_left(alloc: Global, session: &Session) -> Result<u32, Memory>
+    requires { IsChecked session.now.checked }
+    ensures few { IfOk result (λ left. left < 2 ^ 31) }
+    ensures is { IfOk result (λ left. (plan : RunPlan) → IsRunPlan plan → session.now ≡ session_in plan → left ≡ length (whole_from plan [] session.now.trace)) }
 {
-    let layout = Regular {
-        extent,
-        nodes,
-        shape: Shape::Block,
-    };
-    let mut elements = Numbers::new(alloc);
-    for local in 0..layout.length_on(node) {
-        elements.push(layout.global_of(node, local) as i64)?;
-    }
-    Ok(elements)
+    let phases = phases_of(
+        alloc,
+        &session.checked,
+        &session.trace,
+        session.nodes,
+        session.rule,
+    )?;
+    Ok(within(phases))
 }
 
-/// For each decomposition its elements on a node, in blocks.
-pub fn elements_of_blocks(
-    alloc: Global,
-    layouts: &LayoutNames,
-    nodes: u32,
-    node: u32,
-) -> Result<NumberLists, Memory>
-    requires layouts { All (λ (l : ALayout). IsExtent l.extent) layouts.now }
-    requires few { nodes ≤ 16 }
-    requires node { node < nodes }
-    ensures { IfOk result (λ lists. lists ≡ block_elements nodes layouts.now node) }
-{
-    let mut lists = NumberLists::new(alloc);
-    let all = layouts.as_slice();
-    for k in 0..all.len() {
-        lists.push(elements_of_block(alloc, all[k].extent, nodes, node)?)?;
-    }
-    Ok(lists)
-}
-
-/// No counts of so many FORALLs yet.
-pub fn counts_of_none(alloc: Global, sites: usize) -> Result<SiteCounts, Memory>
-    ensures { IfOk result (λ counts. counts ≡ replicate sites no_count) }
-{
-    let mut counts = Items::new(alloc);
-    for _site in 0..sites {
-        counts.push(SiteCount {
-            executed: 0,
-            inspected: 0,
-            gathered: 0,
-            scattered: 0,
-        })?;
-    }
-    Ok(counts)
-}
-
-/// How many phases a session has, where there are fewer than 2^31.
-///
-/// Each step is a PRINT.
-pub fn phases_of(session: &Session) -> u32
+/// A number of phases below 2^31; 0 for another.
+fn within(phases: u64) -> u32
+    ensures is { phases < 2 ^ 31 → result ≡ phases }
     ensures few { result < 2 ^ 31 }
-    ensures is { IsShort session.now → result ≡ length session.now.trace + length session.now.checked.outputs }
 {
-    let steps = session.trace.len() as u64;
-    let phases = steps.saturating_add(session.checked.outputs.len() as u64);
     if phases < 2_147_483_648 {
         phases as u32
     } else {
         0
+    }
+}
+
+/// A node that begins its first phase.
+fn node_with<'a>(
+    alloc: Global,
+    session: &'a Session,
+    me: u32,
+    holdings: Holdings,
+    end: NodeEnd,
+    entered: Entered,
+) -> Node<'a>
+    requires checked { IsChecked session.now.checked }
+    requires me { me < session.now.nodes }
+    requires few { session.now.nodes ≤ 16 }
+    requires stands { CanStand me session.now.nodes entered }
+    ensures face { result.face ≡ face_of me session.now.nodes entered }
+    ensures state { result.state ≡ record { session = session.now; at = entered.at; holdings = holdings; text = []; inspected = []; end = end } }
+{
+    let Entered {
+        at,
+        begins: _,
+        left,
+        out,
+        due,
+        got,
+    } = entered;
+    Node {
+        alloc,
+        session,
+        me,
+        left,
+        at,
+        holdings,
+        text: Bytes::new(alloc),
+        inspected: Numbers::new(alloc),
+        end,
+        out,
+        due,
+        got,
+    }
+}
+
+/// The node, with a note of the inspection that begins.
+fn noting<'a>(node: Node<'a>, begins: bool, execution: u64) -> Result<Node<'a>, Memory>
+    requires { begins ≡ true → execution < 2 ^ 63 }
+    ensures face { IfOk result (λ n. n.face ≡ node.entry.face) }
+    ensures state { IfOk result (λ n. n.state ≡ record node.entry.state { inspected = noted begins execution node.entry.state.inspected }) }
+{
+    let mut node = node;
+    match node.note(begins, execution) {
+        Ok(()) => Ok(node),
+        Err(memory) => {
+            discard(node);
+            Err(memory)
+        }
+    }
+}
+
+/// Drops a node that isn't begun.
+fn discard(_node: Node<'_>) {}
+
+impl<'a> Node<'a> {
+    /// The node of a number, with its local parts while every decomposition is in blocks.
+    pub fn start(
+        alloc: Global,
+        session: &'a Session,
+        id: u32,
+        own: NumberLists,
+    ) -> Result<Node<'a>, Memory>
+        requires node { id < session.now.nodes }
+        requires few { session.now.nodes ≤ 16 }
+        requires checked { IsChecked session.now.checked }
+        ensures { IfOk result (λ node. (plan : RunPlan) → IsRunPlan plan → session.now ≡ session_in plan
+            → own ≡ parts_of plan.checked.arrays (block_owners plan.nodes plan.checked.layouts) plan.store id → (node.face ≡ node_row plan 0 id) × node_holds plan 0 id node.state) }
+    {
+        let left = phases_left(alloc, session)?;
+        let end = NodeEnd {
+            refused: None,
+            counts: counts_of_none(alloc, session.checked.sites.len())?,
+        };
+        let holdings = first_holdings(alloc, session, id, own)?;
+        let between = Between {
+            checked: &session.checked,
+            nodes: session.nodes,
+            rule: session.rule,
+            me: id,
+            elements: &holdings.elements,
+            parts: &holdings.parts,
+            records: &holdings.records,
+            kept: holdings.kept.as_slice(),
+        };
+        let entered = enter_next(alloc, session, &between, &holdings.pages, 0, left)?;
+        let begins = entered.begins;
+        let execution = entered.at.execution;
+        let node = node_with(alloc, session, id, holdings, end, entered);
+        noting(node, begins, execution)
+    }
+
+    /// What the node tells at its end; none before it.
+    pub fn ending(&self) -> Option<&NodeEnd>
+        ensures done { IsSome result ↔ (next_of self.now.face ≡ Done) }
+        ensures end { IfSome result (λ end. end.now ≡ self.now.state.end) }
+    {
+        match self.next_action() {
+            Want::Done => Some(&self.end),
+            _ => None,
+        }
+    }
+
+    /// The executions that this node inspected, in order.
+    pub fn inspected(&self) -> &Numbers
+        ensures { result.now ≡ self.now.state.inspected }
+    {
+        &self.inspected
+    }
+
+    /// The lines so far on node 0; nothing on the others.
+    pub fn text(&self) -> &Bytes
+        ensures { result.now ≡ self.now.state.text }
+    {
+        &self.text
     }
 }

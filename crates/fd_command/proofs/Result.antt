@@ -1,13 +1,14 @@
 -- What clap's answer says of what the words ask for.
 use Rattle.std.proofs.Common.{◌≡◌, ◌≢◌, ◌∙◌, Bool, true, List, [], ◌∷◌, Option, Some, None, option_and_then, IfSome, fold, codes, refl, ap, sym, subst}
 use Rattle.std.specs.List.{list_all}
-use Rattle.clap.specs.Walk.{Row, first_of, one_of, with_default}
+use Rattle.clap.specs.Walk.{Row, one_of, with_default}
 use Rattle.clap.specs.Kinds.{Kinds}
 use Rattle.clap.specs.Words.{fault_of, matches_of}
 use Rattle.fd_command.specs.Options.{Text, value_options, flags, source_name}
 use Rattle.fd_command.specs.Uses.{Use, has}
-use Rattle.fd_command.specs.Asked.{asked, asked_once, asked_with}
+use Rattle.fd_command.specs.Asked.{asked, asked_once, both}
 use Rattle.fd_command.specs.ClapCommand.{the_app, is_clear, flag_text}
+use Rattle.fd_command.specs.ClapRows.{manner_with, origin_by}
 use Rattle.fd_command.proofs.Rules.{rules_by}
 use Rattle.fd_command.proofs.UseRows.{rows_by}
 use Rattle.fd_command.proofs.Verdict.{verdict, verdict_by, idle_walk, settled_held, idle_settled}
@@ -25,11 +26,13 @@ clap_reads words clear = sym (clap_verdict words) ∙ (simulates value_options f
 
 -- what the rows of clap's matches ask for
 abbrev pub AsksBy : List Text → List Row → Type 0
-AsksBy words rows = (b : Bool) × (one_of (codes "plain") rows ≡ Some (flag_text b))
-    × (asked words ≡ asked_with (first_of source_name rows) (first_of (codes "mesh") rows) (first_of (codes "size") rows) (first_of (codes "nodes") rows) (first_of (codes "turns") rows) b)
+AsksBy words rows = (report : Bool) × (one_of (codes "report") rows ≡ Some (flag_text report))
+    × (plain : Bool) × (one_of (codes "plain") rows ≡ Some (flag_text plain)) × (asked words ≡ both (origin_by rows) (manner_with rows report plain))
 
 asks_by_uses : (words : List Text) (us : List Use) → AreGood us → asked words ≡ asked_once us → AsksBy words (fold with_default (rows_by us) (rules_by value_options flags))
 asks_by_uses words us good e = (
+  has (codes "report") us,
+  flag_read value_options (codes "report") us good.fit refl refl,
   has (codes "plain") us,
   flag_read value_options (codes "plain") us good.fit refl refl,
   e ∙ rw (
@@ -39,6 +42,7 @@ asks_by_uses words us good e = (
     value_read value_options (codes "size") us good.fit refl refl,
     value_read value_options (codes "nodes") us good.fit refl refl,
     value_read value_options (codes "turns") us good.fit refl refl,
+    value_read value_options (codes "iterations") us good.fit refl refl,
   ) refl,
 )
 

@@ -3,7 +3,8 @@ use Rattle.std.proofs.Common.{◌≡◌, ◌∙◌, ◌&&◌, ◌||◌, ◌++◌
 use Rattle.std.specs.Str.{bytes_eq}
 use Rattle.fd_command.specs.Options.{Text, value_options, source_name}
 use Rattle.fd_command.specs.Uses.{Use, has, no_repeats, value_of}
-use Rattle.fd_command.specs.Asked.{AskedOrigin, asked_once, asked_with, both, is_source, manner_by, manner_of, mesh_of, nodes_of, number_in, origin_of, turns_of}
+use Rattle.fd_command.specs.Asked.{AskedOrigin, asked_once, both, is_source, iterations_of, manner_by, manner_in, mesh_of, nodes_of, number_in, origin_in, origin_of, report_of, turns_of}
+use Rattle.fd_command.specs.declared.request.Iterations.{Iterations}
 use Rattle.fd_command.specs.declared.request.Turns.{Turns}
 use Rattle.fd_command.proofs.Rules.{same_text, self_text}
 use Rattle.fd_command.proofs.Verdict.{IsKnown}
@@ -60,9 +61,18 @@ dash_no_source : (value : Text) → is_dashed value ≡ true → is_source value
 dash_no_source [] e = refl
 dash_no_source (c ∷ rest) e = rw e refl
 
-pub no_turns : (nodes : Option ℕ) (plain : Bool) → manner_by nodes None plain ≡ None
-no_turns None plain = refl
-no_turns (Some nodes) plain = refl
+dash_no_iterations : (value : Text) → is_dashed value ≡ true → iterations_of (Some value) ≡ None
+dash_no_iterations [] e = cc
+dash_no_iterations (c ∷ rest) e = let dash : c ≡ 45 = eqb-true c 45 e in rw dash refl
+
+no_turns : (nodes : Option ℕ) (iterations : Option Iterations) (report : Option Bool) (plain : Bool) → manner_by nodes None iterations report plain ≡ None
+no_turns None iterations report plain = refl
+no_turns (Some nodes) iterations report plain = refl
+
+no_iterations : (nodes : Option ℕ) (turns : Option Turns) (report : Option Bool) (plain : Bool) → manner_by nodes turns None report plain ≡ None
+no_iterations None turns report plain = refl
+no_iterations (Some nodes) None report plain = refl
+no_iterations (Some nodes) (Some turns) report plain = refl
 
 pub no_manner : (origin : Option AskedOrigin) → both origin None ≡ None
 no_manner None = refl
@@ -94,39 +104,49 @@ no_size None (Some seed) value e = rw e (no_mesh (number_in 0 (2 ^ 32 - 1) seed)
 
 -- the names that have a value: each refuses one with a dash before it
 module _ (us : List Use) (value : Text) (dash : is_dashed value ≡ true) where
-  by_manner : manner_of (value_of (codes "nodes") us) (value_of (codes "turns") us) (has (codes "plain") us) ≡ None → asked_once us ≡ None
+  by_manner : manner_in us ≡ None → asked_once us ≡ None
   by_manner e = by (no_repeats us)
     where
-      origin : Option AskedOrigin
-      origin = origin_of (value_of source_name us) (value_of (codes "mesh") us) (value_of (codes "size") us)
-
-      by : (b : Bool) → (if b then asked_with (value_of source_name us) (value_of (codes "mesh") us) (value_of (codes "size") us) (value_of (codes "nodes") us) (value_of (codes "turns") us) (has (codes "plain") us) else None) ≡ None
-      by true = ap (both origin) e ∙ no_manner origin
+      by : (b : Bool) → (if b then both (origin_in us) (manner_in us) else None) ≡ None
+      by true = ap (both (origin_in us)) e ∙ no_manner (origin_in us)
       by false = refl
 
-  dash_nodes : value_of (codes "nodes") us ≡ Some value → asked_once us ≡ None
-  dash_nodes e = by_manner (ap (λ (n : Option ℕ). manner_by n (turns_of (value_of (codes "turns") us) plain) plain) none)
-    where
-      plain : Bool
-      plain = has (codes "plain") us
+  abbrev plain : Bool
+  plain = has (codes "plain") us
 
+  abbrev nodes : Option ℕ
+  nodes = nodes_of (value_of (codes "nodes") us)
+
+  abbrev turns : Option Turns
+  turns = turns_of (value_of (codes "turns") us) plain
+
+  abbrev iterations : Option Iterations
+  iterations = iterations_of (value_of (codes "iterations") us)
+
+  abbrev report : Option Bool
+  report = report_of (has (codes "report") us) plain
+
+  dash_nodes : value_of (codes "nodes") us ≡ Some value → asked_once us ≡ None
+  dash_nodes e = by_manner (ap (λ (n : Option ℕ). manner_by n turns iterations report plain) none)
+    where
       none : nodes_of (value_of (codes "nodes") us) ≡ None
       none = ap nodes_of e ∙ dash_no_number 1 16 value dash
 
   dash_turns : value_of (codes "turns") us ≡ Some value → asked_once us ≡ None
-  dash_turns e = by_manner (ap (λ (t : Option Turns). manner_by (nodes_of (value_of (codes "nodes") us)) t plain) none ∙ no_turns (nodes_of (value_of (codes "nodes") us)) plain)
+  dash_turns e = by_manner (ap (λ (t : Option Turns). manner_by nodes t iterations report plain) none ∙ no_turns nodes iterations report plain)
     where
-      plain : Bool
-      plain = has (codes "plain") us
-
       none : turns_of (value_of (codes "turns") us) plain ≡ None
       none = ap (λ (o : Option Text). turns_of o plain) e ∙ no_seeded value plain (dash_no_number 0 (2 ^ 32 - 1) value dash)
 
-  by_origin : origin_of (value_of source_name us) (value_of (codes "mesh") us) (value_of (codes "size") us) ≡ None → asked_once us ≡ None
+  dash_iterations : value_of (codes "iterations") us ≡ Some value → asked_once us ≡ None
+  dash_iterations e = by_manner (ap (λ (i : Option Iterations). manner_by nodes turns i report plain) (ap iterations_of e ∙ dash_no_iterations value dash)
+      ∙ no_iterations nodes turns report plain)
+
+  by_origin : origin_in us ≡ None → asked_once us ≡ None
   by_origin e = by (no_repeats us)
     where
-      by : (b : Bool) → (if b then asked_with (value_of source_name us) (value_of (codes "mesh") us) (value_of (codes "size") us) (value_of (codes "nodes") us) (value_of (codes "turns") us) (has (codes "plain") us) else None) ≡ None
-      by true = ap (λ (o : Option AskedOrigin). both o (manner_of (value_of (codes "nodes") us) (value_of (codes "turns") us) (has (codes "plain") us))) e
+      by : (b : Bool) → (if b then both (origin_in us) (manner_in us) else None) ≡ None
+      by true = ap (λ (o : Option AskedOrigin). both o (manner_in us)) e
       by false = refl
 
   dash_source : value_of source_name us ≡ Some value → asked_once us ≡ None
@@ -143,18 +163,20 @@ module _ (us : List Use) (value : Text) (dash : is_dashed value ≡ true) where
 
   dash_value : (name : Text) → IsKnown value_options name → value_of name us ≡ Some value → asked_once us ≡ None
   dash_value name (inr e) v = dash_source (ap (λ (n : Text). value_of n us) (sym e) ∙ v)
-  dash_value name (inl known) v = by (bytes_eq (codes "nodes") name) refl (bytes_eq (codes "mesh") name) refl (bytes_eq (codes "size") name) refl (bytes_eq (codes "turns") name) refl
+  dash_value name (inl known) v = by (bytes_eq (codes "nodes") name) refl (bytes_eq (codes "iterations") name) refl (bytes_eq (codes "mesh") name) refl
+      (bytes_eq (codes "size") name) refl (bytes_eq (codes "turns") name) refl
     where
       is : (n : Text) → bytes_eq n name ≡ true → value_of n us ≡ Some value
       is n e = ap (λ (x : Text). value_of x us) (same_text n name e) ∙ v
 
-      by : (a : Bool) → bytes_eq (codes "nodes") name ≡ a → (b : Bool) → bytes_eq (codes "mesh") name ≡ b → (d : Bool) → bytes_eq (codes "size") name ≡ d
-          → (t : Bool) → bytes_eq (codes "turns") name ≡ t → asked_once us ≡ None
-      by true e b f d g t h = dash_nodes (is (codes "nodes") e)
-      by false e true f d g t h = dash_mesh (is (codes "mesh") f)
-      by false e false f true g t h = dash_size (is (codes "size") g)
-      by false e false f false g true h = dash_turns (is (codes "turns") h)
-      by false e false f false g false h = let bad : false ≡ true = rw (e, f, g, h) at known in cc
+      by : (a : Bool) → bytes_eq (codes "nodes") name ≡ a → (i : Bool) → bytes_eq (codes "iterations") name ≡ i → (b : Bool) → bytes_eq (codes "mesh") name ≡ b
+          → (d : Bool) → bytes_eq (codes "size") name ≡ d → (t : Bool) → bytes_eq (codes "turns") name ≡ t → asked_once us ≡ None
+      by true e i k b f d g t h = dash_nodes (is (codes "nodes") e)
+      by false e true k b f d g t h = dash_iterations (is (codes "iterations") k)
+      by false e false k true f d g t h = dash_mesh (is (codes "mesh") f)
+      by false e false k false f true g t h = dash_size (is (codes "size") g)
+      by false e false k false f false g true h = dash_turns (is (codes "turns") h)
+      by false e false k false f false g false h = let bad : false ≡ true = rw (e, k, f, g, h) at known in cc
 
 pub dash_asks_none : (us more : List Use) (name value : Text) → IsKnown value_options name → is_dashed value ≡ true → asked_once (us ++ (name, Some value) ∷ more) ≡ None
 dash_asks_none us more name value known dash = by (has name us) refl

@@ -2,8 +2,11 @@
 use Rattle.std.specs.Prelude.{ℕ, ◌+◌, ◌-◌, ◌*◌, ◌^◌, ◌==◌, ◌&&◌, Bool, true, false, not, List, [], ◌∷◌, Option, Some, None, if◌then◌else◌, codes, fold, nat_le, option_and_then, option_map}
 use Rattle.std.specs.List.{list_all}
 use Rattle.std.specs.Char.{is_ascii_digit}
+use Rattle.std.specs.Str.{bytes_eq}
 use Rattle.fd_command.specs.Options.{Text, source_name}
 use Rattle.fd_command.specs.Uses.{Use, uses_of, value_of, has, no_repeats}
+use Rattle.fd_command.specs.declared.request.Iterations.{Iterations}
+use Rattle.fd_command.specs.declared.request.Iterations.TheVariants.{Owner, Most}
 use Rattle.fd_command.specs.declared.request.Manner.{Manner}
 use Rattle.fd_command.specs.declared.request.Turns.{Turns}
 use Rattle.fd_command.specs.declared.request.Turns.TheVariants.{RoundRobin, Seeded}
@@ -65,31 +68,49 @@ turns_of None plain = Some RoundRobin
 turns_of (Some text) true = None
 turns_of (Some text) false = option_map Seeded (number_in 0 (2 ^ 32 - 1) text)
 
-abbrev pub manner_by : Option ℕ → Option Turns → Bool → Option Manner
-manner_by (Some nodes) (Some turns) plain = Some (record { nodes = nodes; turns = turns; plain = plain })
-manner_by (Some nodes) None plain = None
-manner_by None turns plain = None
+abbrev pub iterations_named : Text → Option Iterations
+iterations_named text = if bytes_eq text (codes "owner") then Some Owner else (if bytes_eq text (codes "most") then Some Most else None)
 
--- by the nodes and the turns, and whether `--plain` stands
-abbrev pub manner_of : Option Text → Option Text → Bool → Option Manner
-manner_of nodes turns plain = manner_by (nodes_of nodes) (turns_of turns plain) plain
+-- the rule for the homes of iterations: that of owners where none is given
+abbrev pub iterations_of : Option Text → Option Iterations
+iterations_of None = Some Owner
+iterations_of (Some text) = iterations_named text
+
+-- whether a report is asked for, by whether `--report` and `--plain` stand: not both may stand
+abbrev pub report_of : Bool → Bool → Option Bool
+report_of true true = None
+report_of true false = Some true
+report_of false plain = Some false
+
+abbrev pub manner_by : Option ℕ → Option Turns → Option Iterations → Option Bool → Bool → Option Manner
+manner_by (Some nodes) (Some turns) (Some iterations) (Some report) plain =
+    Some (record { nodes = nodes; turns = turns; iterations = iterations; report = report; plain = plain })
+manner_by (Some nodes) (Some turns) (Some iterations) None plain = None
+manner_by (Some nodes) (Some turns) None report plain = None
+manner_by (Some nodes) None iterations report plain = None
+manner_by None turns iterations report plain = None
+
+-- by the nodes, the turns and the iterations, and whether `--report` and `--plain` stand
+abbrev pub manner_of : Option Text → Option Text → Option Text → Bool → Bool → Option Manner
+manner_of nodes turns iterations report plain = manner_by (nodes_of nodes) (turns_of turns plain) (iterations_of iterations) (report_of report plain) plain
 
 abbrev pub both : Option AskedOrigin → Option Manner → Option Asked
 both (Some origin) (Some manner) = Some (record { origin = origin; manner = manner })
 both (Some origin) None = None
 both None manner = None
 
--- what the values of source, mesh, size, nodes and turns ask for, and whether `--plain` stands
-abbrev pub asked_with : Option Text → Option Text → Option Text → Option Text → Option Text → Bool → Option Asked
-asked_with source seed size nodes turns plain = both (origin_of source seed size) (manner_of nodes turns plain)
+-- where uses say that the program comes from
+abbrev pub origin_in : List Use → Option AskedOrigin
+origin_in uses = origin_of (value_of source_name uses) (value_of (codes "mesh") uses) (value_of (codes "size") uses)
+
+-- how uses say that it runs
+abbrev pub manner_in : List Use → Option Manner
+manner_in uses =
+    manner_of (value_of (codes "nodes") uses) (value_of (codes "turns") uses) (value_of (codes "iterations") uses) (has (codes "report") uses) (has (codes "plain") uses)
 
 -- what uses ask for, where no name is used twice
 abbrev pub asked_once : List Use → Option Asked
-asked_once uses =
-    if no_repeats uses
-    then asked_with (value_of source_name uses) (value_of (codes "mesh") uses) (value_of (codes "size") uses)
-    (value_of (codes "nodes") uses) (value_of (codes "turns") uses) (has (codes "plain") uses)
-    else None
+asked_once uses = if no_repeats uses then both (origin_in uses) (manner_in uses) else None
 
 -- what words ask for, and none exactly where they aren't taken
 abbrev pub asked : List Text → Option Asked

@@ -56,9 +56,11 @@ fn command<'a>(alloc: Global) -> Result<Command<'a>, AllocError>
 {
     let command = bare_command(alloc);
     let command = with_value(alloc, command, "nodes")?;
+    let command = with_value(alloc, command, "iterations")?;
     let command = with_value(alloc, command, "mesh")?;
     let command = with_value(alloc, command, "size")?;
     let command = with_value(alloc, command, "turns")?;
+    let command = with_flag(alloc, command, "report")?;
     let command = with_flag(alloc, command, "plain")?;
     with_source(alloc, command)
 }

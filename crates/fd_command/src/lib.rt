@@ -8,4 +8,4 @@ mod command;
 mod number;
 mod request;
 
-pub use request::{Manner, Origin, Refused, Request, Turns, requested};
+pub use request::{Iterations, Manner, Origin, Refused, Request, Turns, requested};

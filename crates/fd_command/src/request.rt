@@ -1,10 +1,10 @@
 ghost use Rattle.std.specs.Prelude.{◌≡◌, ◌≤◌, ◌-◌, ◌^◌, IfOk, IfSome, Bool, Err, None, Some, codes, map, option_map, string_bytes};
 ghost use Rattle.std.specs.List.{list_all};
-ghost use Rattle.clap.specs.Words.{found_of, first_of, one_of, rows_of};
-ghost use Rattle.fd_command.specs.Options.{source_name};
-ghost use Rattle.fd_command.specs.Asked.{asked, asked_with, is_source, file_of, manner_of, nodes_of, number_in, origin_of, turns_of};
+ghost use Rattle.clap.specs.Words.{found_of, one_of, rows_of};
+ghost use Rattle.fd_command.specs.Asked.{asked, both, is_source, file_of, iterations_named, iterations_of, manner_of, nodes_of, number_in, origin_of, report_of, turns_of};
 ghost use Rattle.fd_command.specs.declared.request.Turns.TheVariants as Turns;
 ghost use Rattle.fd_command.specs.ClapCommand.{flag_text, is_clear};
+ghost use Rattle.fd_command.specs.ClapRows.{manner_with, origin_by};
 ghost use Rattle.fd_command.specs.Shown.{HasMeshInRange, shown, shown_origin};
 
 use crate::command::parsed;
@@ -30,6 +30,15 @@ pub enum Turns {
     Seeded(u32),
 }
 
+/// Which node runs an iteration of a FORALL.
+#[derive(Clone, Copy, Debug, PartialEq, Eq)]
+pub enum Iterations {
+    /// The owner of what the first statement changes.
+    Owner,
+    /// The first of the nodes that own most of what the iteration refers to.
+    Most,
+}
+
 /// How the program runs.
 #[derive(Clone, Copy, Debug, PartialEq, Eq)]
 pub struct Manner {
@@ -37,6 +46,10 @@ pub struct Manner {
     pub nodes: u32,
     /// In which order the nodes take turns.
     pub turns: Turns,
+    /// Which node runs an iteration.
+    pub iterations: Iterations,
+    /// Whether a report is written behind the text.
+    pub report: bool,
     /// Whether it runs plainly, without nodes.
     pub plain: bool,
 }
@@ -121,17 +134,61 @@ fn seeded(text: &str) -> Option<Turns>
     Some(Turns::Seeded(seed))
 }
 
+/// The rule with this name.
+fn iterations_named(text: &str) -> Option<Iterations>
+    ensures { result ≡ iterations_named text.now }
+{
+    if text == "owner" {
+        Some(Iterations::Owner)
+    } else if text == "most" {
+        Some(Iterations::Most)
+    } else {
+        None
+    }
+}
+
+/// Which node runs an iteration: the owner where nothing is given.
+fn iterations_of(given: Option<&str>) -> Option<Iterations>
+    ensures { result ≡ iterations_of (option_map (λ s. s.now) given.entry) }
+{
+    match given {
+        None => Some(Iterations::Owner),
+        Some(text) => iterations_named(text),
+    }
+}
+
+/// Whether a report is asked for. A plain run has none, so it takes no wish for one.
+fn report_of(report: bool, plain: bool) -> Option<bool>
+    ensures { result ≡ report_of report plain }
+{
+    match (report, plain) {
+        (true, true) => None,
+        (true, false) => Some(true),
+        (false, _) => Some(false),
+    }
+}
+
 /// How the program runs.
-fn manner_of(nodes: Option<&str>, turns: Option<&str>, plain: bool) -> Option<Manner>
-    ensures manner { result ≡ manner_of (option_map (λ s. s.now) nodes.entry) (option_map (λ s. s.now) turns.entry) plain }
+fn manner_of(
+    nodes: Option<&str>,
+    turns: Option<&str>,
+    iterations: Option<&str>,
+    report: bool,
+    plain: bool,
+) -> Option<Manner>
+    ensures manner { result ≡ manner_of (option_map (λ s. s.now) nodes.entry) (option_map (λ s. s.now) turns.entry) (option_map (λ s. s.now) iterations.entry) report plain }
     ensures some_nodes { IfSome result (λ m. 1 ≤ m.nodes) }
     ensures few_nodes { IfSome result (λ m. m.nodes ≤ 16) }
 {
     let nodes = nodes_of(nodes)?;
     let turns = turns_of(turns, plain)?;
+    let iterations = iterations_of(iterations)?;
+    let report = report_of(report, plain)?;
     Some(Manner {
         nodes,
         turns,
+        iterations,
+        report,
         plain,
     })
 }
@@ -176,10 +233,9 @@ fn origin_of<'a>(
 
 /// What clap's matches ask for.
 fn read<'a>(matches: &ArgMatches<'a>) -> Option<Request<'a>>
-    ensures asked { (b : Bool) → one_of (codes "plain") (rows_of (found_of matches.now)) ≡ Some (flag_text b)
-        → option_map shown result ≡ asked_with (first_of source_name (rows_of (found_of matches.now)))
-        (first_of (codes "mesh") (rows_of (found_of matches.now))) (first_of (codes "size") (rows_of (found_of matches.now)))
-        (first_of (codes "nodes") (rows_of (found_of matches.now))) (first_of (codes "turns") (rows_of (found_of matches.now))) b }
+    ensures asked { (report plain : Bool) → one_of (codes "report") (rows_of (found_of matches.now)) ≡ Some (flag_text report)
+        → one_of (codes "plain") (rows_of (found_of matches.now)) ≡ Some (flag_text plain)
+        → option_map shown result ≡ both (origin_by (rows_of (found_of matches.now))) (manner_with (rows_of (found_of matches.now)) report plain) }
     ensures some_nodes { IfSome result (λ r. 1 ≤ r.manner.nodes) }
     ensures few_nodes { IfSome result (λ r. r.manner.nodes ≤ 16) }
     ensures range { IfSome result (λ r. HasMeshInRange r.origin) }
@@ -188,18 +244,22 @@ fn read<'a>(matches: &ArgMatches<'a>) -> Option<Request<'a>>
     let Some(origin) = origin_of(source, matches.get_str("mesh"), matches.get_str("size")) else {
         return None;
     };
+    let report = matches.get_flag("report");
     let plain = matches.get_flag("plain");
     let nodes = matches.get_str("nodes");
-    let Some(manner) = manner_of(nodes, matches.get_str("turns"), plain) else {
+    let turns = matches.get_str("turns");
+    let iterations = matches.get_str("iterations");
+    let Some(manner) = manner_of(nodes, turns, iterations, report, plain) else {
         return None;
     };
     Some(Request { origin, manner })
 }
 
-/// What the words ask for: SOURCE, or `--mesh` with `--size`, and `--nodes`, `--turns` and `--plain`.
+/// What the words ask for: SOURCE, or `--mesh` with `--size`, and `--nodes`, `--iterations`, `--report`, `--turns`
+/// and `--plain`.
 ///
-/// An option stands at most once. `--nodes`, `--mesh`, `--size` and `--turns` take the next word as their
-/// value, or carry it after `=`.
+/// An option stands at most once. `--nodes`, `--iterations`, `--mesh`, `--size` and `--turns` take the next word as
+/// their value, or carry it after `=`. `--plain` stands with neither `--report` nor `--turns`.
 pub fn requested<'a>(alloc: Global, words: &'a [String]) -> Result<Request<'a>, Refused>
     ensures taken { IfOk result (λ request. asked (map string_bytes words.entry.now) ≡ Some (shown request)) }
     ensures refused { result ≡ Err Refused.NotTaken → asked (map string_bytes words.entry.now) ≡ None }

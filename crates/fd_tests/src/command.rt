@@ -1,4 +1,4 @@
-use fd_command::{Manner, Origin, Refused, Request, Turns, requested};
+use fd_command::{Iterations, Manner, Origin, Refused, Request, Turns, requested};
 use std::alloc::{AllocError, Global};
 use std::process::Abort;
 use std::test::Fail;
@@ -22,36 +22,51 @@ fn asks(
     Ok(())
 }
 
-fn file<'a>(nodes: u32, plain: bool) -> Result<Request<'a>, Refused> {
+/// How a program runs where no option stands.
+fn usual() -> Manner {
+    Manner {
+        nodes: 4,
+        turns: Turns::RoundRobin,
+        iterations: Iterations::Owner,
+        report: false,
+        plain: false,
+    }
+}
+
+fn file<'a>(manner: Manner) -> Result<Request<'a>, Refused> {
     Ok(Request {
         origin: Origin::File("b.fd"),
-        manner: Manner {
-            nodes,
-            turns: Turns::RoundRobin,
-            plain,
-        },
+        manner,
+    })
+}
+
+fn nodes<'a>(nodes: u32, plain: bool) -> Result<Request<'a>, Refused> {
+    file(Manner {
+        nodes,
+        plain,
+        ..usual()
     })
 }
 
 fn mesh<'a>(seed: u32, size: u32) -> Result<Request<'a>, Refused> {
     Ok(Request {
         origin: Origin::Mesh { seed, size },
-        manner: Manner {
-            nodes: 4,
-            turns: Turns::RoundRobin,
-            plain: false,
-        },
+        manner: usual(),
     })
 }
 
 fn seeded<'a>(seed: u32) -> Result<Request<'a>, Refused> {
-    Ok(Request {
-        origin: Origin::File("b.fd"),
-        manner: Manner {
-            nodes: 4,
-            turns: Turns::Seeded(seed),
-            plain: false,
-        },
+    file(Manner {
+        turns: Turns::Seeded(seed),
+        ..usual()
+    })
+}
+
+fn reported<'a>(iterations: Iterations) -> Result<Request<'a>, Refused> {
+    file(Manner {
+        iterations,
+        report: true,
+        ..usual()
     })
 }
 
@@ -59,13 +74,13 @@ fn seeded<'a>(seed: u32) -> Result<Request<'a>, Refused> {
 fn words_on_memory(rt: HostRuntime) -> Result<(), Fail> {
     let alloc = rt.alloc();
     let not_taken = Err(Refused::NotTaken);
-    asks(&rt, alloc, &["b.fd"], file(4, false))?;
-    asks(&rt, alloc, &["--nodes", "2", "b.fd"], file(2, false))?;
+    asks(&rt, alloc, &["b.fd"], nodes(4, false))?;
+    asks(&rt, alloc, &["--nodes", "2", "b.fd"], nodes(2, false))?;
     asks(
         &rt,
         alloc,
         &["b.fd", "--nodes=16", "--plain"],
-        file(16, true),
+        nodes(16, true),
     )?;
     asks(
         &rt,
@@ -83,5 +98,19 @@ fn words_on_memory(rt: HostRuntime) -> Result<(), Fail> {
         &["b.fd", "--mesh", "0", "--size", "8"],
         not_taken,
     )?;
-    asks(&rt, alloc, &["b.fd", "--report"], not_taken)
+    asks(
+        &rt,
+        alloc,
+        &["--report", "b.fd", "--iterations", "most"],
+        reported(Iterations::Most),
+    )?;
+    asks(
+        &rt,
+        alloc,
+        &["b.fd", "--iterations=owner", "--report"],
+        reported(Iterations::Owner),
+    )?;
+    asks(&rt, alloc, &["b.fd", "--iterations", "Most"], not_taken)?;
+    asks(&rt, alloc, &["b.fd", "--plain", "--report"], not_taken)?;
+    asks(&rt, alloc, &["b.fd", "--report", "--report"], not_taken)
 }

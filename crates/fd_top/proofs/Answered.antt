@@ -7,17 +7,11 @@ use Rattle.fd_program.specs.Runs.{run_of}
 use Rattle.fd_program.specs.declared.refused.Refused.{Refused}
 use Rattle.fd_command.specs.Asked.{Asked, AskedOrigin, file, mesh, asked}
 use Rattle.fd_command.specs.declared.request.Manner.{Manner}
-use Rattle.fd_first.specs.Meaning.{end_of}
-use Rattle.fd_first.specs.declared.first_form.Refusal.{Refusal}
 use Rattle.fd_front.specs.Sources.{IsSource}
 use Rattle.fd_front.specs.declared.source.Source.{Source}
 use Rattle.fd_load.specs.Files.{file_of}
-use Rattle.fd_top.specs.Outcomes.{Reading, Outcome, status_of_first, status_of_run, IsRunOf, RunsPlainly, RunsInTurns, OverData, unread_file, faulty_file, ran, OnNodes, ran_first, unbuilt, ran_turns, ComesOf, Comes, refused, accepted, IsText, SourceFailed, data_read, FromOrigin, unread, too_long, source, ToCome, untaken, taken}
-use Rattle.fd_top.specs.Answers.{Left, Ends, IsWritten, IsAnswer, the_source, an_array, NoneFailed, IsComplete, HasRun, plainly, in_turns, of_first_form, RanRight}
-
-is_first_status : (o : Option Refusal) (n : ℕ) → n ≡ status_of_first o → (n ≡ 0) ⊎ (n ≡ 3)
-is_first_status None n e = inl e
-is_first_status (Some r) n e = inr e
+use Rattle.fd_top.specs.Outcomes.{Reading, Outcome, status_of_run, RunsPlainly, RunsInTurns, OverData, unread_file, faulty_file, ran, ComesOf, Comes, refused, accepted, IsText, SourceFailed, data_read, FromOrigin, unread, too_long, source, ToCome, untaken, taken}
+use Rattle.fd_top.specs.Answers.{Left, Ends, IsWritten, IsAnswer, the_source, an_array, NoneFailed, IsComplete, HasRun, plainly, in_turns, RanRight}
 
 is_run_status : (o : Option Refused) (n : ℕ) → n ≡ status_of_run o → (n ≡ 0) ⊎ (n ≡ 3)
 is_run_status None n e = inl e
@@ -35,7 +29,7 @@ counts_of (mesh seed size) r name rose = absurd (omega (arith, rose))
 
 -- runs have a status of their own
 abbrev pub HaveRunStatus : Source → (List (List ℤ) → Outcome → Type 0) → Type 0
-HaveRunStatus s Runs = (store : List (List ℤ)) (o : Outcome) → Runs store o → IsRunOf s store o
+HaveRunStatus s Runs = (store : List (List ℤ)) (o : Outcome) → Runs store o → o.status ≡ status_of_run (run_of s.checked store).refused
 
 failed_data : (words : List (List ℕ)) (r : Reading) {s : Source} {o : Outcome} (w : Asked) → asked words ≡ Some w
     → (text : List ℕ) → IsText r.contents w.origin text → IsSource text s → NoneFailed words r → (Runs : List (List ℤ) → Outcome → Type 0) → HaveRunStatus s Runs
@@ -44,21 +38,13 @@ failed_data words r {s = s} w is text held read none Runs run (unread_file array
     none (file_of (array_at s.checked.arrays array)) (an_array w is text held s read array l.0) (counts_of w.origin r (file_of (array_at s.checked.arrays array)) l.1)
 failed_data words r w is text held read none Runs run (faulty_file array fault l) e = absurd (omega (arith, e))
 failed_data words r {s = s} w is text held read none Runs run (ran store l o runs) e =
-    neither o.status e (is_run_status (run_of s.checked store).refused o.status (run store o runs).status)
-
-failed_nodes : (words : List (List ℕ)) (r : Reading) {s : Source} {o : Outcome} (w : Asked) → asked words ≡ Some w
-    → (text : List ℕ) → IsText r.contents w.origin text → IsSource text s → NoneFailed words r → (m : Manner) → OnNodes m (data_read w.origin r) s o → o.status ≡ 69 → ⊥
-failed_nodes words r w is text held read none m (ran_first p first) e =
-    neither (status_of_first (end_of p).refused) e (is_first_status (end_of p).refused (status_of_first (end_of p).refused) refl)
-failed_nodes words r w is text held read none m (unbuilt other place stops) e = absurd (omega (arith, e))
-failed_nodes words r {s = s} w is text held read none m (ran_turns other built o d) e =
-    failed_data words r w is text held read none (RunsInTurns m s) (λ store o t. t.run) d e
+    neither o.status e (is_run_status (run_of s.checked store).refused o.status (run store o runs))
 
 failed_of : (words : List (List ℕ)) (r : Reading) {s : Source} (o : Outcome) (w : Asked) → asked words ≡ Some w
     → (text : List ℕ) → IsText r.contents w.origin text → IsSource text s → NoneFailed words r → (plain : Bool) (m : Manner)
     → ComesOf plain m (data_read w.origin r) s o → o.status ≡ 69 → ⊥
-failed_of words r {s = s} o w is text held read none true m c e = failed_data words r w is text held read none (RunsPlainly s) (λ store o t. t.run) c e
-failed_of words r o w is text held read none false m c e = failed_nodes words r w is text held read none m c e
+failed_of words r {s = s} o w is text held read none true m c e = failed_data words r w is text held read none (RunsPlainly s) (λ store o t. t.run.status) c e
+failed_of words r {s = s} o w is text held read none false m c e = failed_data words r w is text held read none (RunsInTurns m s) (λ store o t. t.run.status) c e
 
 failed_comes : (words : List (List ℕ)) (r : Reading) {o : Outcome} (w : Asked) → asked words ≡ Some w
     → (text : List ℕ) → IsText r.contents w.origin text → NoneFailed words r → {m : Manner} → Comes m (data_read w.origin r) text o → o.status ≡ 69 → ⊥
@@ -113,14 +99,9 @@ run_turns m (unread_file array l) run = not_run 69 69 refl (λ e. omega (arith, 
 run_turns m (faulty_file array fault l) run = not_run 66 66 refl (λ e. omega (arith, e)) (λ e. omega (arith, e)) run
 run_turns m (ran store l o runs) run = in_turns store l o runs
 
-run_nodes : {r : Reading} {s : Source} {o : Outcome} (m : Manner) → OnNodes m r s o → IsRun o.status → HasRun r m s false o
-run_nodes m (ran_first p first) run = of_first_form p first _ refl refl refl
-run_nodes m (unbuilt other place stops) run = not_run 65 65 refl (λ e. omega (arith, e)) (λ e. omega (arith, e)) run
-run_nodes m (ran_turns other built o d) run = run_turns m d run
-
 has_run : (r : Reading) (m : Manner) (s : Source) (plain : Bool) (o : Outcome) → ComesOf plain m r s o → IsRun o.status → HasRun r m s plain o
 has_run r m s true o c run = run_plainly m c run
-has_run r m s false o c run = run_nodes m c run
+has_run r m s false o c run = run_turns m c run
 
 -- the end of an outcome, whole
 pub record IsWhole (o : Outcome) (result : ℕ) (old new : Left) : Type 0 where

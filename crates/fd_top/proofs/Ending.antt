@@ -1,9 +1,12 @@
 -- Ways of ending, one within another.
-use Rattle.std.proofs.Common.{◌≡◌, ℕ, ◌<◌, ◌≤◌, Bool, true, false, List, length, refl, ap, sym, ◌∙◌, subst, inl, inr, arith}
+use Rattle.std.proofs.Common.{◌≡◌, ℕ, ◌<◌, ◌≤◌, Bool, true, false, List, ◌++◌, length, refl, ap, sym, ◌∙◌, subst, inl, inr, arith}
 use Rattle.std.specs.Prelude.{ℤ, Option, Some, None, IfSome, IfOk, Ok, Err, Result, if◌then◌else◌, is_some}
 use Rattle.fd_outside.specs.Causes.{Rose, NoneFell}
 use Rattle.fd_program.specs.declared.checked.Checked.{Checked}
+use Rattle.fd_program.specs.declared.loop_facts.HomeRule.{HomeRule}
 use Rattle.fd_program.specs.declared.refused.Refused.{Refused}
+use Rattle.fd_program.specs.Reports.{report_of_program}
+use Rattle.fd_program.specs.Texts.{text_of}
 use Rattle.fd_load.specs.Loads.{IsLoaded}
 use Rattle.fd_load.specs.declared.store.LoadStop.{LoadStop}
 use Rattle.fd_load.specs.declared.store.LoadStop.TheVariants.{Unread, Fault, Memory}
@@ -21,7 +24,7 @@ use Rattle.fd_top.specs.Made.{told_by}
 use Rattle.fd_mesh.specs.Source.{source_of}
 use Rattle.fd_mesh.specs.Mesh.{files_of}
 use Rattle.fd_mesh.specs.declared.files.FileData.{FileData}
-use Rattle.fd_top.specs.Outcomes.{Told, Counts, Reading, reading, Outcome, a_line, OverData, unread_file, faulty_file, ran, OnNodes, ran_first, unbuilt, ran_turns, ComesOf, Comes, refused, accepted, FromOrigin, source, status_of_run}
+use Rattle.fd_top.specs.Outcomes.{Told, Counts, Reading, reading, Outcome, a_line, OverData, unread_file, faulty_file, ran, ComesOf, Comes, refused, accepted, FromOrigin, source, status_of_run, rule_of, written_for}
 use Rattle.fd_top.specs.Answers.{Left, Ends, EndsBy, IsWritten, left}
 
 pub ends_more : (P Q : Outcome → Type 0) (result : ℕ) (old new : Left) → ((o : Outcome) → P o → Q o) → EndsBy P result old new → EndsBy Q result old new
@@ -55,16 +58,10 @@ data_earlier contents before middle now s later (unread_file array l) = unread_f
 data_earlier contents before middle now s later (faulty_file array fault l) = faulty_file array fault (loaded_earlier contents before middle now s.checked (Err (Fault array fault)) later l)
 data_earlier contents before middle now s later (ran store l o runs) = ran store (loaded_earlier contents before middle now s.checked (Ok store) later l) o runs
 
-nodes_earlier : (m : Manner) (contents : Told) (before middle now : Counts) (s : Source) {o : Outcome} → NoneFell before middle
-    → OnNodes m (reading contents middle now) s o → OnNodes m (reading contents before now) s o
-nodes_earlier m contents before middle now s later (ran_first p first) = ran_first p first
-nodes_earlier m contents before middle now s later (unbuilt other place stops) = unbuilt other place stops
-nodes_earlier m contents before middle now s later (ran_turns other built o d) = ran_turns other built o (data_earlier contents before middle now s later d)
-
 of_earlier : (plain : Bool) (m : Manner) (contents : Told) (before middle now : Counts) (s : Source) (o : Outcome) → NoneFell before middle
     → ComesOf plain m (reading contents middle now) s o → ComesOf plain m (reading contents before now) s o
 of_earlier true m contents before middle now s o later c = data_earlier contents before middle now s later c
-of_earlier false m contents before middle now s o later c = nodes_earlier m contents before middle now s later c
+of_earlier false m contents before middle now s o later c = data_earlier contents before middle now s later c
 
 pub comes_earlier : (m : Manner) (contents : Told) (before middle now : Counts) (text : List ℕ) {o : Outcome} → NoneFell before middle
     → Comes m (reading contents middle now) text o → Comes m (reading contents before now) text o
@@ -102,6 +99,13 @@ planned_more P Q (Ok plan) more p = more (planned plan) p
 pub status_told : (o : Option Refused) (is_refused : Bool) (status : ℕ) → is_refused ≡ is_some o → status ≡ (if is_refused then 3 else 0) → status ≡ status_of_run o
 status_told None is_refused status e f = f ∙ ap (λ b. if b then 3 else 0) e
 status_told (Some r) is_refused status e f = f ∙ ap (λ b. if b then 3 else 0) e
+
+-- what a run tells is what is to be written
+pub written_told : (m : Manner) (s : Source) (store : List (List ℤ)) (rule : HomeRule) (text report bytes : List ℕ) → rule ≡ rule_of m.iterations → text ≡ text_of s.checked store
+    → report ≡ report_of_program s.checked m.nodes rule store → bytes ≡ (if m.report then text ++ report else text) → bytes ≡ written_for m s store
+written_told m s store rule text report bytes by_rule is_text is_report is =
+    is ∙ ap (λ (t : List ℕ). if m.report then t ++ report else t) is_text
+    ∙ ap (λ (t : List ℕ). if m.report then text_of s.checked store ++ t else text_of s.checked store) (is_report ∙ ap (λ r. report_of_program s.checked m.nodes r store) by_rule)
 
 -- ---- stops
 

@@ -1,5 +1,3 @@
 pub mod Ending
 pub mod Answered
-pub mod FirstForm
 pub mod Loaded
-pub mod Prints

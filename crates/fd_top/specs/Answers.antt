@@ -9,11 +9,7 @@ use Rattle.fd_front.specs.Sources.{IsSource}
 use Rattle.fd_front.specs.declared.source.Source.{Source}
 use Rattle.fd_load.specs.Files.{file_of}
 use Rattle.fd_load.specs.Loads.{IsReached, IsLoaded}
-use Rattle.fd_first.specs.Stages.{first_form}
-use Rattle.fd_first.specs.Meaning.{end_of}
-use Rattle.fd_first.specs.Texts.{text_of as first_text}
-use Rattle.fd_first.specs.declared.first_form.FirstProgram.{FirstProgram}
-use Rattle.fd_top.specs.Outcomes.{Reading, Outcome, IsText, RunsPlainly, RunsInTurns, data_read, ToCome, status_of_first}
+use Rattle.fd_top.specs.Outcomes.{Reading, Outcome, IsText, RunsPlainly, RunsInTurns, data_read, ToCome}
 
 -- what a call leaves: the sink's count of failures, what was written to it, and what was played
 pub record Left : Type 0 where
@@ -74,16 +70,14 @@ pub record EndsWhole (o : Outcome) (result : ℕ) (old new : Left) : Type 0 wher
 abbrev pub IsComplete : List (List ℕ) → Reading → ℕ → Left → Left → Type 0
 IsComplete words r result old new = ((o : Outcome) × (ToCome words r o × EndsWhole o result old new)) ⊎ IsWanting result old new
 
--- a run of a source: the status says whether the sequential run is refused, and the bytes are its text
+-- a run of a source: the status says whether the sequential run is refused, and the bytes are its text, with the report of the nodes where one is asked for
 pub data HasRun (r : Reading) (m : Manner) (s : Source) : Bool → Outcome → Type 0 where
   plainly : (store : List (List ℤ)) → IsLoaded r.contents r.before r.now s.checked (Ok store) → (o : Outcome) → RunsPlainly s store o
       → HasRun r m s true o
   in_turns : (store : List (List ℤ)) → IsLoaded r.contents r.before r.now s.checked (Ok store) → (o : Outcome) → RunsInTurns m s store o
       → HasRun r m s false o
-  of_first_form : (p : FirstProgram) → first_form s.tokens.tokens ≡ Some p → (o : Outcome) → o.status ≡ status_of_first (end_of p).refused
-      → o.bytes ≡ first_text p → o.played ≡ None → HasRun r m s false o
 
--- the source that the words ask for was run right, its text was written, and what was played stands
+-- the source that the words ask for was run right, all of that was written, and what was played stands
 pub record RanRight (words : List (List ℕ)) (r : Reading) (result : ℕ) (old new : Left) : Type 0 where
   pub request : Asked
   pub taken : asked words ≡ Some request

@@ -1,4 +1,3 @@
-pub mod Built
 pub mod Made
 pub mod Outcomes
 pub mod Stops

@@ -1,26 +1,23 @@
 -- What comes of a call: its status, what it writes, and what was played.
-use Rattle.std.specs.Prelude.{ℕ, ℤ, ◌≡◌, ◌<◌, ◌≤◌, Bool, true, false, List, length, Option, Some, None, Ok, Err, IfSome, IsSomeAnd, codes}
-use Rattle.fd_words.specs.declared.source.SourcePlace.{SourcePlace}
+use Rattle.std.specs.Prelude.{ℕ, ℤ, ◌≡◌, ◌<◌, ◌≤◌, Bool, true, false, if◌then◌else◌, List, ◌++◌, length, Option, Some, None, Ok, Err, IfSome, IsSomeAnd, codes}
 use Rattle.fd_words.specs.declared.source.SourceFault.{SourceFault}
-use Rattle.fd_words.specs.declared.source.SourceCause.TheVariants.{NotBuilt}
 use Rattle.fd_outside.specs.Causes.{Rose}
 use Rattle.fd_data.specs.declared.read.DataFault.{DataFault}
 use Rattle.fd_program.specs.Stores.{array_at}
+use Rattle.fd_program.specs.Reports.{report_of_program}
 use Rattle.fd_program.specs.Runs.{run_of}
 use Rattle.fd_program.specs.Texts.{text_of}
-use Rattle.fd_program.specs.declared.loop_facts.HomeRule.TheVariants.{Owner}
+use Rattle.fd_program.specs.declared.loop_facts.HomeRule.{HomeRule}
+use Rattle.fd_program.specs.declared.loop_facts.HomeRule.TheVariants as home
 use Rattle.fd_program.specs.declared.refused.Refused.{Refused}
 use Rattle.fd_command.specs.Asked.{Asked, AskedOrigin, file, mesh, asked}
+use Rattle.fd_command.specs.declared.request.Iterations.{Iterations}
+use Rattle.fd_command.specs.declared.request.Iterations.TheVariants as iterations
 use Rattle.fd_command.specs.declared.request.Manner.{Manner}
 use Rattle.fd_command.specs.declared.request.Turns.{Turns}
 use Rattle.fd_command.specs.declared.request.Turns.TheVariants as turns
 use Rattle.fd_mesh.specs.Source.{source_of}
 use Rattle.fd_mesh.specs.Mesh.{files_of}
-use Rattle.fd_first.specs.Stages.{first_form}
-use Rattle.fd_first.specs.Meaning.{end_of}
-use Rattle.fd_first.specs.Texts.{text_of as first_text}
-use Rattle.fd_first.specs.declared.first_form.FirstProgram.{FirstProgram}
-use Rattle.fd_first.specs.declared.first_form.Refusal.{Refusal}
 use Rattle.fd_front.specs.Sources.{IsSource, IsSourceFault}
 use Rattle.fd_front.specs.Lines.{fault_line}
 use Rattle.fd_front.specs.declared.source.Source.{Source}
@@ -35,7 +32,6 @@ use Rattle.chaos_engine.specs.declared.turns.Order.{Order}
 use Rattle.chaos_engine.specs.declared.turns.Order.TheVariants as order
 use Rattle.chaos_run.specs.Phases.{due_list}
 use Rattle.chaos_run.specs.Rows.{RunPlan}
-use Rattle.fd_top.specs.Built.{first_unbuilt}
 use Rattle.fd_top.specs.Made.{told_by}
 
 unfoldable pub usage_line : List ℕ
@@ -71,42 +67,47 @@ abbrev pub a_line : ℕ → List ℕ → Outcome
 a_line status bytes = record { status = status; bytes = bytes; played = None }
 
 -- 3 where a run is refused, else 0
-abbrev pub status_of_first : Option Refusal → ℕ
-status_of_first None = 0
-status_of_first (Some refusal) = 3
-
 abbrev pub status_of_run : Option Refused → ℕ
 status_of_run None = 0
 status_of_run (Some refused) = 3
 
 -- ---- a run over data
 
--- the sequential run's status and text
-pub record IsRunOf (s : Source) (store : List (List ℤ)) (o : Outcome) : Type 0 where
+-- the sequential run's status, and what is written of it
+pub record IsRunOf (s : Source) (store : List (List ℤ)) (written : List ℕ) (o : Outcome) : Type 0 where
   pub status : o.status ≡ status_of_run (run_of s.checked store).refused
-  pub text : o.bytes ≡ text_of s.checked store
+  pub bytes : o.bytes ≡ written
 
--- on one machine, without turns
+-- on one machine, without turns: its text is written
 pub record RunsPlainly (s : Source) (store : List (List ℤ)) (o : Outcome) : Type 0 where
-  pub run : IsRunOf s store o
+  pub run : IsRunOf s store (text_of s.checked store) o
   pub plain : o.played ≡ None
 
 abbrev pub order_of : Turns → Order
 order_of turns.RoundRobin = order.RoundRobin
 order_of (turns.Seeded seed) = order.Seeded seed
 
+abbrev pub rule_of : Iterations → HomeRule
+rule_of iterations.Owner = home.Owner
+rule_of iterations.Most = home.Most
+
 -- the plan of a source's nodes
 abbrev pub plan_for : Manner → Source → List (List ℤ) → RunPlan
-plan_for m s store = record { checked = s.checked; nodes = m.nodes; rule = Owner; store = store }
+plan_for m s store = record { checked = s.checked; nodes = m.nodes; rule = rule_of m.iterations; store = store }
+
+-- what is written of a source's run on nodes: its text, and the report behind it where one is asked for
+abbrev pub written_for : Manner → Source → List (List ℤ) → List ℕ
+written_for m s store =
+    if m.report then text_of s.checked store ++ report_of_program s.checked m.nodes (rule_of m.iterations) store else text_of s.checked store
 
 -- what was played on a source's nodes: from each node to each the letters that are due, and the moves of turns in the given order
 pub record IsPlay (m : Manner) (s : Source) (store : List (List ℤ)) (played : Played) : Type 0 where
-  pub letters : (p q : ℕ) → p < m.nodes → q < m.nodes → sent_of m.nodes played.sent p q ≡ due_list s.checked m.nodes Owner store p q
+  pub letters : (p q : ℕ) → p < m.nodes → q < m.nodes → sent_of m.nodes played.sent p q ≡ due_list s.checked m.nodes (rule_of m.iterations) store p q
   pub moves : IsOrdered (plan_for m s store) (order_of m.turns) played.moved played.sent
 
 -- on nodes that take turns
 pub record RunsInTurns (m : Manner) (s : Source) (store : List (List ℤ)) (o : Outcome) : Type 0 where
-  pub run : IsRunOf s store o
+  pub run : IsRunOf s store (written_for m s store) o
   pub turns : IsSomeAnd o.played (IsPlay m s store)
 
 -- what a source comes to over its data files: one that can't be read or is faulty, or a run from the store that they give
@@ -119,22 +120,10 @@ pub data OverData (r : Reading) (s : Source) (Runs : List (List ℤ) → Outcome
 
 -- ---- a source
 
--- what isn't built yet, at a place
-abbrev pub not_built_at : SourcePlace → SourceFault
-not_built_at place = record { at = place; cause = NotBuilt }
-
--- what a source comes to on nodes: one of the first form has nodes of its own, which take no turns; any other takes turns,
--- unless it has something that isn't built
-pub data OnNodes (m : Manner) (r : Reading) (s : Source) : Outcome → Type 0 where
-  ran_first : (p : FirstProgram) → first_form s.tokens.tokens ≡ Some p → OnNodes m r s (a_line (status_of_first (end_of p).refused) (first_text p))
-  unbuilt : first_form s.tokens.tokens ≡ None → (place : SourcePlace) → first_unbuilt s.tokens.tokens s.program ≡ Some place
-      → OnNodes m r s (a_line 65 (fault_line (not_built_at place)))
-  ran_turns : first_form s.tokens.tokens ≡ None → first_unbuilt s.tokens.tokens s.program ≡ None → (o : Outcome) → OverData r s (RunsInTurns m s) o
-      → OnNodes m r s o
-
+-- what a source comes to on one machine, or on nodes
 abbrev pub ComesOf : Bool → Manner → Reading → Source → Outcome → Type 0
 ComesOf true m r s o = OverData r s (RunsPlainly s) o
-ComesOf false m r s o = OnNodes m r s o
+ComesOf false m r s o = OverData r s (RunsInTurns m s) o
 
 -- what a text comes to
 pub data Comes (m : Manner) (r : Reading) (text : List ℕ) : Outcome → Type 0 where

@@ -1,11 +1,9 @@
 //! All that the programs do, from the words of the command line to the status.
 #![tactic(auto)]
 
-mod built;
 mod end;
 mod made;
 mod planned;
 mod top;
 
-pub use built::not_built;
 pub use top::play_program;

@@ -1,39 +1,29 @@
-ghost use Rattle.std.specs.Prelude.{◌≡◌, ◌≤◌, length, IfOk, None, Ok, if◌then◌else◌};
-ghost use Rattle.std.specs.Option.{is_some};
-ghost use Rattle.fd_grammar.specs.Grammar.{HasTokens};
+ghost use Rattle.std.specs.Prelude.{◌≡◌, ◌≤◌, ◌++◌, length, IfOk, Ok, if◌then◌else◌};
 ghost use Rattle.fd_outside.specs.Causes.{NoneFell};
 ghost use Rattle.fd_program.specs.Stores.{array_at};
 ghost use Rattle.fd_program.specs.Trace.{trace_of};
-ghost use Rattle.fd_first.specs.Meaning.{end_of};
-ghost use Rattle.fd_first.specs.Texts.{text_of as first_text};
 ghost use Rattle.fd_checks.specs.Shapes.{AreShaped};
-ghost use Rattle.fd_checks.specs.Walks.{resolved_program};
 ghost use Rattle.fd_front.specs.Lines.{fault_line};
 ghost use Rattle.fd_load.specs.Files.{file_of};
 ghost use Rattle.fd_load.specs.Lines.{data_line, unread_line};
 ghost use Rattle.fd_program.specs.Checks.{IsChecked};
 ghost use Rattle.fd_program.specs.Stores.{FitsStore};
-ghost use Rattle.chaos_node.specs.Plans.{ArePrints};
 ghost use Rattle.chaos_run.specs.Limits.{IsWithin};
-ghost use Rattle.fd_first.specs.Stages.{first_form};
 ghost use Rattle.fd_trace.specs.Way.{IsUnrolled};
-ghost use Rattle.fd_top.specs.Built.{first_unbuilt};
-ghost use Rattle.fd_top.specs.Outcomes.{a_line, not_built_at, status_of_first, reading, order_of, RunsPlainly, RunsInTurns, OverData, OnNodes, ComesOf, Comes};
+ghost use Rattle.fd_top.specs.Outcomes.{a_line, reading, order_of, rule_of, RunsPlainly, RunsInTurns, OverData, ComesOf, Comes};
 ghost use Rattle.fd_top.specs.Stops.{planned, IsRefused, IsStopped};
 
-use crate::built::not_built;
 use bsp_core::Played;
-use chaos_engine::{Order, run_turns};
-use chaos_node::Session;
-use fd_command::{Manner, Turns};
+use chaos_engine::{EngineEnd, Order, run_turns};
+use chaos_holdings::Session;
+use fd_command::{Iterations, Manner, Turns};
 use fd_data::DataFault;
-use fd_first::{FirstProgram, first_program, run_first};
 use fd_front::{Source, fault_line, read_source};
 use fd_load::{LoadStop, array_at, file_name, load};
 use fd_meaning::run_plain;
 use fd_outside::Files;
 use fd_program::{HomeRule, Store};
-use fd_words::{Bytes, Memory, SourceCause, SourceFault, SourcePlace, SourceStop};
+use fd_words::{Bytes, Memory, SourceFault, SourceStop};
 use std::alloc::Global;
 
 /// What a source comes to: the status, the bytes to write, and what was played, if its nodes took turns.
@@ -140,18 +130,6 @@ fn plain_planned<F: Files>(alloc: Global, source: &Source, files: &mut F) -> Res
     }
 }
 
-/// Runs a program of the first form on its nodes.
-fn first_planned(alloc: Global, program: &FirstProgram, nodes: u32) -> Result<Planned, Memory>
-    requires some_elements { 1 ≤ program.now.extent }
-    requires some_nodes { 1 ≤ nodes }
-    requires few_nodes { nodes ≤ 16 }
-    ensures { IfOk result (λ plan. planned plan ≡ a_line (status_of_first (end_of program.now).refused) (first_text program.now)) }
-{
-    let first = run_first(alloc, program, nodes)?;
-    let status = status_of(first.refused.is_some());
-    Ok(Planned::line(status, first.text))
-}
-
 /// The order of the turns.
 fn order(turns: Turns) -> Order
     ensures { result ≡ order_of turns }
@@ -162,6 +140,31 @@ fn order(turns: Turns) -> Order
     }
 }
 
+/// The rule for the homes of iterations.
+fn rule(iterations: Iterations) -> HomeRule
+    ensures { result ≡ rule_of iterations }
+{
+    match iterations {
+        Iterations::Owner => HomeRule::Owner,
+        Iterations::Most => HomeRule::Most,
+    }
+}
+
+/// What is written of a run: its text, and its report where one is asked for.
+fn written(end: EngineEnd, report: bool) -> Result<Bytes, Memory>
+    ensures { IfOk result (λ bytes. bytes ≡ (if report then end.text ++ end.report else end.text)) }
+{
+    let EngineEnd {
+        mut text,
+        report: lines,
+        ..
+    } = end;
+    if report {
+        text.append(lines.as_slice())?;
+    }
+    Ok(text)
+}
+
 /// Runs a source on nodes that take turns, from its store before the run.
 fn turns_planned(
     alloc: Global,
@@ -170,7 +173,6 @@ fn turns_planned(
     store: &Store,
 ) -> Result<Planned, Memory>
     requires sound { IsChecked source.checked }
-    requires prints { ArePrints (trace_of source.checked) }
     requires trace { source.trace ≡ trace_of source.checked }
     requires within { IsWithin source.checked }
     requires some_nodes { 1 ≤ manner.nodes }
@@ -182,27 +184,27 @@ fn turns_planned(
         checked: source.checked,
         trace: source.trace,
         nodes: manner.nodes,
-        rule: HomeRule::Owner,
+        rule: rule(manner.iterations),
     };
     let (end, played) = run_turns(alloc, &session, store, order(manner.turns))?;
+    let status = status_of(end.refused);
+    let text = written(end, manner.report)?;
     Ok(Planned {
-        status: status_of(end.refused),
-        text: end.text,
+        status,
+        text,
         played: Some(played),
     })
 }
 
 /// Reads the data files of a source and runs it on nodes that take turns.
-fn played_planned<F: Files>(
+fn nodes_planned<F: Files>(
     alloc: Global,
     source: Source,
     manner: Manner,
     files: &mut F,
 ) -> Result<Planned, Memory>
     requires sound { IsChecked source.checked }
-    requires prints { ArePrints (trace_of source.checked) }
-    requires trace { source.trace ≡ trace_of source.checked }
-    requires within { IsWithin source.checked }
+    requires trace { IsUnrolled source.checked (Ok source.trace) }
     requires some_nodes { 1 ≤ manner.nodes }
     requires few_nodes { manner.nodes ≤ 16 }
     ensures planned { IfOk result (λ plan. OverData (reading (F.contents files.old) (F.faults files.old) (F.faults files.new)) source (RunsInTurns manner source) (planned plan)) }
@@ -215,60 +217,6 @@ fn played_planned<F: Files>(
     }
 }
 
-/// Runs a source on nodes.
-fn nodes_planned<F: Files>(
-    alloc: Global,
-    source: Source,
-    manner: Manner,
-    files: &mut F,
-) -> Result<Planned, Memory>
-    requires spelled { HasTokens source.program source.tokens.tokens }
-    requires resolved { source.checked ≡ resolved_program source.program }
-    requires sound { IsChecked source.checked }
-    requires trace { IsUnrolled source.checked (Ok source.trace) }
-    requires some_nodes { 1 ≤ manner.nodes }
-    requires few_nodes { manner.nodes ≤ 16 }
-    ensures planned { IfOk result (λ plan. OnNodes manner (reading (F.contents files.old) (F.faults files.old) (F.faults files.new)) source (planned plan)) }
-    ensures contents { F.contents files.new ≡ F.contents files.old }
-    ensures faults { NoneFell (F.faults files.old) (F.faults files.new) }
-{
-    match not_built(&source.tokens, &source.program) {
-        Some(at) => unbuilt_planned(alloc, at),
-        None => built_planned(alloc, source, manner, files),
-    }
-}
-
-/// The line for a source with something that isn't built.
-fn unbuilt_planned(alloc: Global, at: SourcePlace) -> Result<Planned, Memory>
-    ensures { IfOk result (λ plan. planned plan ≡ a_line 65 (fault_line (not_built_at at))) }
-{
-    let cause = SourceCause::NotBuilt;
-    refused(alloc, SourceFault { at, cause })
-}
-
-/// Runs a source that is built on nodes.
-fn built_planned<F: Files>(
-    alloc: Global,
-    source: Source,
-    manner: Manner,
-    files: &mut F,
-) -> Result<Planned, Memory>
-    requires built { None ≡ (if is_some (first_form source.tokens.tokens) then None else first_unbuilt source.tokens.tokens source.program) }
-    requires resolved { source.checked ≡ resolved_program source.program }
-    requires sound { IsChecked source.checked }
-    requires trace { IsUnrolled source.checked (Ok source.trace) }
-    requires some_nodes { 1 ≤ manner.nodes }
-    requires few_nodes { manner.nodes ≤ 16 }
-    ensures planned { IfOk result (λ plan. OnNodes manner (reading (F.contents files.old) (F.faults files.old) (F.faults files.new)) source (planned plan)) }
-    ensures contents { F.contents files.new ≡ F.contents files.old }
-    ensures faults { NoneFell (F.faults files.old) (F.faults files.new) }
-{
-    match first_program(alloc, source.tokens.tokens.as_slice())? {
-        Some(program) => first_planned(alloc, &program, manner.nodes),
-        None => played_planned(alloc, source, manner, files),
-    }
-}
-
 /// What an accepted source comes to.
 fn source_planned<F: Files>(
     alloc: Global,
@@ -276,8 +224,6 @@ fn source_planned<F: Files>(
     manner: Manner,
     files: &mut F,
 ) -> Result<Planned, Memory>
-    requires spelled { HasTokens source.program source.tokens.tokens }
-    requires resolved { source.checked ≡ resolved_program source.program }
     requires sound { IsChecked source.checked }
     requires shaped { AreShaped source.checked.sites }
     requires trace { IsUnrolled source.checked (Ok source.trace) }

@@ -159,10 +159,10 @@ fn play<F: Files, S: Sink>(
 }
 
 /// All that `chaosplay` does: takes the words behind the program's name, reads the source or makes the mesh, and runs
-/// it, over the data files of the arrays that it reads: with `--plain` on one machine; without, on nodes that each hold
-/// their blocks of the arrays alone. Where the nodes take turns, `played` becomes the turns that moved and the letters
-/// that were sent; in every other case it stays. The call writes the text, or the one line of a refusal. The answer is
-/// the program's status.
+/// it, over the data files of the arrays that it reads: with `--plain` on one machine; without, on nodes that take turns
+/// and each hold their parts of the arrays alone. Then `played` becomes the turns that moved and the letters that were
+/// sent; in every other case it stays. The call writes the text, with `--report` the report behind it, or the one line
+/// of a refusal. The answer is the program's status.
 ///
 /// Every answer has its cause in the clause `answer`. `complete` says that without a fault of the sink or of the files
 /// that are named, the answer is what comes of the words, the source and the data, or want of memory. After 0 and 3

@@ -1,5 +1,5 @@
 use Rattle.fd_program.specs.Places.{part_of}
-use Rattle.chaos_node.specs.Starting.{block_owners}
+use Rattle.chaos_holdings.specs.Starting.{block_owners}
 use Rattle.chaos_engine.proofs.Blocked.{map-below-one}
 use Rattle.chaos_engine.proofs.pieces.parts_on.Goals as goal
 

@@ -1,7 +1,7 @@
 use Rattle.std.proofs.Common.{◌≡◌, map}
 use Rattle.chaos_dist.specs.Counting.{below}
 use Rattle.fd_program.specs.Places.{part_of}
-use Rattle.chaos_node.specs.Starting.{block_owners}
+use Rattle.chaos_holdings.specs.Starting.{block_owners}
 use Rattle.chaos_engine.proofs.pieces.parts_on.Given as goal
 
 abbrev pub invariant-loop-array : goal.invariant-loop-array

@@ -1,5 +1,5 @@
 use Rattle.fd_program.specs.Places.{parts_of}
-use Rattle.chaos_node.specs.Starting.{block_owners}
+use Rattle.chaos_holdings.specs.Starting.{block_owners}
 use Rattle.chaos_engine.proofs.Blocked.{map-below-one}
 use Rattle.chaos_engine.proofs.pieces.split.Goals as goal
 

@@ -1,7 +1,7 @@
 use Rattle.std.proofs.Common.{◌≡◌, map}
 use Rattle.chaos_dist.specs.Counting.{below}
 use Rattle.fd_program.specs.Places.{parts_of}
-use Rattle.chaos_node.specs.Starting.{block_owners}
+use Rattle.chaos_holdings.specs.Starting.{block_owners}
 use Rattle.chaos_engine.proofs.pieces.split.Given as goal
 
 abbrev pub invariant-loop-node : goal.invariant-loop-node

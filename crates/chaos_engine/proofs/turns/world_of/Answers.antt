@@ -2,8 +2,8 @@ use Rattle.std.proofs.Common.{refl, List, map, ap, sym, subst, length, ◌∙◌
 use Rattle.std.proofs.lemmas.List.{length-map}
 use Rattle.bsp_core.specs.Turns.{Begins}
 use Rattle.bsp_core.specs.Views.{View}
-use Rattle.chaos_node.specs.Plans.{node_holds}
-use Rattle.chaos_node.specs.State.{NodeState}
+use Rattle.chaos_entering.specs.Standing.{node_holds}
+use Rattle.chaos_entering.specs.State.{NodeState}
 use Rattle.chaos_run.specs.Rows.{node_row}
 use Rattle.chaos_engine.specs.Runs.{plan_of}
 use Rattle.chaos_engine.proofs.Begun.{admitted, session_is}

@@ -1,28 +1,39 @@
-use Rattle.std.proofs.Common.{[], ap, sym, ◌∙◌, replicate}
+use Rattle.std.proofs.Common.{refl, [], None, ap, sym, ◌∙◌, replicate}
 use Rattle.fd_program.specs.Reports.{no_count}
-use Rattle.chaos_node.specs.Beginning.{state_with}
-use Rattle.chaos_node.specs.Started.{started}
-use Rattle.chaos_node.specs.Starting.{block_elements}
-use Rattle.chaos_node.specs.State.{NodeState}
-use Rattle.chaos_node.specs.declared.session.Session.{Session}
-use Rattle.chaos_node.proofs.Ascending.{entered_out, entered_due}
-use Rattle.chaos_node.proofs.Ended.{end_with, none_of}
+use Rattle.fd_program.specs.Trace.{trace_of}
+use Rattle.chaos_entering.specs.Coming.{noted}
+use Rattle.chaos_entering.specs.Standing.{session_in}
+use Rattle.chaos_entering.specs.State.{NodeState}
+use Rattle.chaos_holdings.specs.declared.session.NodeEnd.{NodeEnd}
+use Rattle.chaos_holdings.specs.declared.session.Session.{Session}
+use Rattle.chaos_node.proofs.Started.{covers_same, if_both, started, state_first}
 use Rattle.chaos_node.proofs.node.Node.start.Goals as goal
 
-pub node_with-requires-clause-out : goal.node_with-requires-clause-out
-node_with-requires-clause-out c = entered_out c.args.session.now c.args.id c.at_step-cursor.result _ _ c.in_ok-entered.entered c.in_ok-entered.ensures
-
-pub node_with-requires-clause-due : goal.node_with-requires-clause-due
-node_with-requires-clause-due c = entered_due c.args.session.now c.args.id c.at_step-cursor.result _ _ c.in_ok-entered.entered c.in_ok-entered.ensures
-
 pub returns : goal.returns
-returns c = λ plan is session own.
+returns c =
     let s = c.args.session.now in
     let e = c.in_ok-entered.entered in
-    let state = c.node_with.ensures.state in
-    started s c.args.id c.node_with.result e c.in_ok-elements.elements c.args.own c.at_step-cursor.result c.phases_of-left.result plan
-    (c.in_ok-elements.ensures ∙ ap (λ (x : Session). block_elements x.nodes x.checked.layouts c.args.id) session)
-    own session is c.at_step-cursor.ensures c.phases_of-left.ensures.is c.in_ok-entered.ensures c.node_with.ensures.face
-    (state ∙ sym (ap (λ (st : NodeState). state_with st s c.in_ok-elements.elements c.args.own e.cursor e.own []) state))
-    (ap (λ (st : NodeState). st.inspected) state ∙ c.new.ensures)
-    (ap (λ (st : NodeState). st.end) state ∙ ap end_with (c.in_ok-counts.ensures ∙ ap (λ n. replicate n no_count) c.len.ensures ∙ ap none_of session))
+    let h = c.in_ok-holdings.holdings in
+    let end : NodeEnd = record { refused = None; counts = c.in_ok-counts_of_none.field-0 } in
+    if_both c.noting.result _ _ _
+    (λ node face state.
+    started s c.args.id c.in_ok-left.left c.args.own h end e node.face node.state c.requires.node c.in_ok-holdings.ensures
+    (record { refused = refl; counts = c.in_ok-counts_of_none.ensures ∙ ap (λ n. replicate n no_count) c.len.ensures })
+    c.in_ok-left.ensures.is
+    (λ plan is same next.
+    c.in_ok-entered.ensures.right plan [] (trace_of plan.checked) (state_first (session_in plan) e.at h end) is same refl
+    (record {
+      checked = ap (λ (x : Session). x.checked) same;
+      nodes = ap (λ (x : Session). x.nodes) same;
+      rule = ap (λ (x : Session). x.rule) same;
+      elements = refl;
+      parts = refl;
+      records = refl;
+      kept = covers_same _ h.kept c.as_slice.ensures;
+    }) refl next)
+    (face ∙ c.node_with-node.ensures.face)
+    (state ∙ ap (λ (st : NodeState). record st { inspected = noted e.begins e.at.execution st.inspected }) c.node_with-node.ensures.state))
+    c.noting.ensures.face c.noting.ensures.state
+
+pub noting-requires : goal.noting-requires
+noting-requires c = c.in_ok-entered.ensures.made.number

@@ -1,0 +1,78 @@
+-- Where a node is at the end of a phase of an execution, and what the steps of the plan tell there.
+use Rattle.std.specs.Prelude.{◌≡◌, refl, ℕ, zero, suc, ◌+◌, ◌<◌, ◌≤◌, List, [], ◌∷◌, ◌++◌, drop, length, map, reverse, Option, Some, None}
+use Rattle.std.specs.List.{AllByRecursion}
+use Rattle.std.specs.Option.{option_and_then}
+use Rattle.std.proofs.Common.{ap, sym, ◌∙◌, subst, arith}
+use Rattle.std.proofs.lemmas.Grind.{reverse_onto}
+use Rattle.bsp_core.specs.Views.{Face, View, next_with, ready}
+use Rattle.bsp_core.specs.declared.phased.Want.TheVariants.{Send, Take, Work, Done}
+use Rattle.chaos_letter.specs.declared.letter.Letter.{Letter}
+use Rattle.chaos_letter.specs.declared.wanted.Wanted.{Wanted}
+use Rattle.chaos_facts.specs.FactsLaws.{IsStepIn, StepsAreIn}
+use Rattle.fd_program.specs.Checks.{IsChecked}
+use Rattle.fd_program.specs.Trace.{trace_of}
+use Rattle.fd_program.specs.declared.trace.LoopTurn.{LoopTurn}
+use Rattle.fd_program.specs.declared.trace.Step.{Step}
+use Rattle.fd_program.specs.declared.trace.Step.TheVariants.{Forall}
+use Rattle.chaos_places.specs.LetterLaws.{letters_come_in, letters_for}
+use Rattle.chaos_places.specs.PhaseBegins.{rows_follow}
+use Rattle.chaos_places.specs.Places.{StandsBefore}
+use Rattle.chaos_places.specs.StepEnds.{steps_are_known}
+use Rattle.chaos_run.specs.Phases.{Phase}
+use Rattle.chaos_run.specs.Rows.{RunPlan, face_left, node_row, phases_in, scene_in}
+use Rattle.chaos_holdings.specs.Executions.{turn_by, turn_in}
+use Rattle.chaos_entering.specs.State.{NodeState}
+
+-- ---- the face
+
+-- where work is due, a phase is left
+pub work_left : (left : ℕ) (due : List (ℕ × Wanted)) (out : List (ℕ × Letter)) → next_with left due out ≡ Work → 1 ≤ left
+work_left left due (x ∷ xs) e = cc
+work_left left (x ∷ xs) [] e = cc
+work_left zero [] [] e = cc
+work_left (suc left) [] [] e = omega arith
+
+-- node p at the end of phase t, which is `f`
+pub record EndsPhase (plan : RunPlan) (t p : ℕ) (f : Phase) (later : List Phase) (v : View NodeState) : Type 0 where
+  pub me : v.face.me ≡ p
+  pub left : v.face.left ≡ f.left
+  pub got : v.face.got ≡ letters_for (scene_in plan) f p
+  pub behind : drop (t + 1) (phases_in plan) ≡ later
+
+pub ends_phase : (plan : RunPlan) (t p : ℕ) (f : Phase) (later : List Phase) (v : View NodeState) → p < plan.nodes → v.face ≡ ready (node_row plan t) p
+    → drop t (phases_in plan) ≡ f ∷ later → EndsPhase plan t p f later v
+ends_phase plan t p f later v is_node row phases =
+    let s = scene_in plan in
+    let face : v.face ≡ record { me = p; count = plan.nodes; left = f.left; out = []; due = []; got = letters_for s f p } =
+    row ∙ ap (λ fs. ready (face_left s fs) p) phases ∙ letters_come_in s f later p is_node in
+    record {
+      me = ap (λ (x : Face). x.me) face;
+      left = ap (λ (x : Face). x.left) face;
+      got = ap (λ (x : Face). x.got) face;
+      behind = (rows_follow plan t f later phases).left;
+    }
+
+-- ---- the steps
+
+pub some_same : {A : Type 0} (x y : A) → Some x ≡ Some y → x ≡ y
+some_same x y e = cc
+
+pub turn_is : (plan : RunPlan) (past rest : List Step) (site : ℕ) (turn : LoopTurn) → StandsBefore plan past (Forall site turn ∷ rest)
+    → turn_in (trace_of plan.checked) (length past) ≡ Some turn
+turn_is plan past rest site turn h = ap (λ o. option_and_then turn_by o) (steps_are_known plan past (Forall site turn ∷ rest) h).next
+
+all_split : {A : Type 0} (P : A → Type 0) (xs ys : List A) → AllByRecursion P (xs ++ ys) → AllByRecursion P xs × AllByRecursion P ys
+all_split P [] ys h = (tt, h)
+all_split P (x ∷ xs) ys h = let rest = all_split P xs ys h.1 in ((h.0, rest.0), rest.1)
+
+all_reversed : {A : Type 0} (P : A → Type 0) (xs : List A) → AllByRecursion P (reverse xs) → AllByRecursion P xs
+all_reversed P [] h = tt
+all_reversed P (x ∷ xs) h =
+    let parts = all_split P (reverse xs) (x ∷ []) (subst (AllByRecursion P) (reverse_onto xs x []) h) in
+    (parts.1.0, all_reversed P xs parts.0)
+
+-- the steps behind are the program's
+pub steps_behind : StepsAreIn → (plan : RunPlan) (past rest : List Step) → IsChecked plan.checked → StandsBefore plan past rest → AllByRecursion (IsStepIn plan.checked) past
+steps_behind steps plan past rest known h =
+    all_reversed (IsStepIn plan.checked) past
+    (all_split (IsStepIn plan.checked) (reverse past) rest (subst (AllByRecursion (IsStepIn plan.checked)) (sym h.trace) (steps plan.checked known))).0

@@ -1,6 +1,0 @@
-use Rattle.std.proofs.Common.{◌≡◌, take}
-use Rattle.chaos_node.specs.Starting.{block_elements}
-use Rattle.chaos_node.proofs.starting.elements_of_blocks.Given as goal
-
-abbrev pub invariant-loop-k : goal.invariant-loop-k
-invariant-loop-k l = l.lists ≡ block_elements l.nodes (take l.k l.layouts) l.node

@@ -1,0 +1,79 @@
+ghost use Rattle.std.specs.Prelude.{◌≡◌, ◌<◌, IfOk};
+ghost use Rattle.bsp_core.specs.Views.{next_of};
+ghost use Rattle.bsp_core.specs.declared.phased.Want.TheVariants.{Work};
+ghost use Rattle.chaos_node.specs.Changing.{CanBeMade, ChangesRight};
+
+use crate::change::Change;
+use crate::node::Node;
+use bsp_core::{Phased, TakeFault, Want};
+use chaos_entering::Activity;
+use chaos_letter::{Letter, Wanted};
+use fd_words::Memory;
+
+impl<'a> Node<'a> {
+    /// All that the end of the present phase changes.
+    fn change(&self) -> Result<Change, Memory>
+        requires { next_of self.now.face ≡ Work }
+        ensures made { IfOk result (CanBeMade self.now) }
+        ensures right { IfOk result (ChangesRight self.now) }
+    {
+        match &self.at.activity {
+            Activity::Printing => self.end_print(),
+            Activity::Output(number) => self.end_output(*number),
+            Activity::Moving(moving) => self.end_move(moving),
+            Activity::Inspecting(inspection) => self.end_inspection(inspection),
+            Activity::Gathering => self.end_gather(),
+            Activity::Scattering(executing) => self.end_scatter(executing),
+            Activity::Ended => Ok(self.stop()),
+        }
+    }
+}
+
+impl<'a> Phased for Node<'a> {
+    ghost use Rattle.chaos_entering.specs.State.{NodeState};
+    ghost use Rattle.chaos_run.specs.Rows.{IsRunPlan, RunPlan, node_row};
+    ghost use Rattle.chaos_entering.specs.Standing.{node_holds};
+
+    ghost State = { NodeState };
+
+    ghost Plan = { RunPlan };
+
+    ghost IsPlan = { IsRunPlan };
+
+    ghost count = { λ plan. plan.nodes };
+
+    ghost rows = { node_row };
+
+    ghost holds = { node_holds };
+
+    ghost view = { λ s. s };
+
+    fn next(&self) -> Want {
+        self.next_action()
+    }
+
+    fn wanted(&self) -> Wanted {
+        self.next_wanted()
+    }
+
+    fn post(&mut self) -> Letter {
+        self.post_next()
+    }
+
+    fn take(&mut self, letter: Letter) -> Result<(), TakeFault> {
+        self.take_next(letter)
+    }
+
+    fn work(&mut self) -> Result<(), Memory> {
+        let change = self.change()?;
+        self.commit(change)
+    }
+
+    ghost use Rattle.chaos_run.specs.RowLaws.{rows_meet, rows_fall};
+
+    ghost rows_meet = { λ plan h t. rows_meet plan h t };
+
+    ghost few = { λ plan h. (h.some, h.few) };
+
+    ghost rows_fall = { λ plan h t. rows_fall plan t };
+}
