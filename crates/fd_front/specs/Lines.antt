@@ -31,7 +31,6 @@ cause_name cause.TooManyLoops = codes "TooManyLoops"
 cause_name cause.TraceTooLong = codes "TraceTooLong"
 cause_name cause.LoopTooLarge = codes "LoopTooLarge"
 cause_name cause.TextTooLong = codes "TextTooLong"
-cause_name cause.NotBuilt = codes "NotBuilt"
 
 -- the name that the fault carries, behind a blank
 abbrev pub carried : SourceCause → List ℕ

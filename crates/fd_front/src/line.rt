@@ -36,7 +36,6 @@ fn cause_name(cause: SourceCause) -> &'static [u8]
         SourceCause::TraceTooLong => b"TraceTooLong",
         SourceCause::LoopTooLarge => b"LoopTooLarge",
         SourceCause::TextTooLong => b"TextTooLong",
-        SourceCause::NotBuilt => b"NotBuilt",
     }
 }
 

@@ -1,7 +1,7 @@
 -- Faults, by place and by row of the table of faults.
 use Rattle.std.specs.Prelude.{◌⊎◌, ◌≡◌, ℕ, Bool, true, false, nat_lt, nat_eq, ◌||◌, ◌&&◌, if◌then◌else◌, Option, Some, None, List, [], ◌∷◌, ◌++◌}
 use Rattle.fd_words.specs.declared.source.SourceCause.{SourceCause}
-use Rattle.fd_words.specs.declared.source.SourceCause.TheVariants.{BadByte, NumberTooLarge, NameTooLong, NoEnd, Unexpected, TooDeep, TooManyNames, Unknown, NotIndex, Twice, ScalarTooLarge, BadExtent, AlignOutside, MapLength, AssignThroughIndex, TwoAssigns, AssignAndReduce, TwoOperators, TooManyReferences, TooManyStamps, TooManyLoops, TraceTooLong, LoopTooLarge, TextTooLong, NotBuilt}
+use Rattle.fd_words.specs.declared.source.SourceCause.TheVariants.{BadByte, NumberTooLarge, NameTooLong, NoEnd, Unexpected, TooDeep, TooManyNames, Unknown, NotIndex, Twice, ScalarTooLarge, BadExtent, AlignOutside, MapLength, AssignThroughIndex, TwoAssigns, AssignAndReduce, TwoOperators, TooManyReferences, TooManyStamps, TooManyLoops, TraceTooLong, LoopTooLarge, TextTooLong}
 use Rattle.fd_words.specs.declared.source.SourceFault.{SourceFault}
 use Rattle.fd_words.specs.declared.source.SourcePlace.{SourcePlace}
 
@@ -43,7 +43,6 @@ row_of TooManyLoops = 20
 row_of TraceTooLong = 21
 row_of LoopTooLarge = 22
 row_of TextTooLong = 23
-row_of NotBuilt = 24
 
 -- by line, then by column, then by row
 abbrev pub is_before_by : ℕ → ℕ → ℕ → ℕ → ℕ → ℕ → Bool

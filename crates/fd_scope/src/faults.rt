@@ -87,7 +87,6 @@ fn row(cause: &SourceCause) -> u32
         SourceCause::TraceTooLong => 21,
         SourceCause::LoopTooLarge => 22,
         SourceCause::TextTooLong => 23,
-        SourceCause::NotBuilt => 24,
     }
 }
 

@@ -37,7 +37,6 @@ pub enum SourceCause {
     TraceTooLong,
     LoopTooLarge,
     TextTooLong,
-    NotBuilt,
 }
 
 /// The first fault of a source, and its place.
