@@ -1,7 +1,8 @@
 #!/bin/sh
 # Times the proved program on large inputs: one line a case, with seconds and peak memory.
 here=$(cd "$(dirname "$0")" && pwd)
-program=$here/../crates/chaosplay/out/chaosplay
+play=$here/../crates/chaosplay/out/chaosplay
+run=$here/../crates/chaosrun/out/chaosrun
 work=$(mktemp -d)
 trap 'rm -rf "$work"' EXIT
 python3 "$here/inputs.py" "$work" || exit 1
@@ -10,7 +11,7 @@ measure() {
 	name=$1
 	cd "$2" || exit 1
 	shift 2
-	python3 - "$name" "$program" "$@" <<'PY'
+	python3 - "$name" "$@" <<'PY'
 import resource, subprocess, sys, time
 name, *command = sys.argv[1:]
 begun = time.time()
@@ -22,16 +23,17 @@ print(f"{name:34} {seconds:8.2f} s {peak:9.1f} MiB  status {done.returncode}  {f
 PY
 }
 
-measure "source of 1 MiB, refused at its end" "$work" stops.fd --plain
-measure "source of 1 MiB, run" "$work" long.fd --plain
-measure "data file of 32 MiB" "$work" large.fd --plain
+measure "source of 1 MiB, refused at its end" "$work" "$play" stops.fd --plain
+measure "source of 1 MiB, run" "$work" "$play" long.fd --plain
+measure "data file of 32 MiB" "$work" "$play" large.fd --plain
 for turns in 4 40; do
-	measure "sweep, $turns steps, half size" "$work/half-$turns" sweep.fd --plain
-	measure "sweep, $turns steps" "$work/sweep-$turns" sweep.fd --plain
+	measure "sweep, $turns steps, half size" "$work/half-$turns" "$play" sweep.fd --plain
+	measure "sweep, $turns steps" "$work/sweep-$turns" "$play" sweep.fd --plain
 done
 for size in 50000 100000; do
-	measure "mesh of $size points" "$work" --mesh 7 --size $size --plain
+	measure "mesh of $size points" "$work" "$play" --mesh 7 --size $size --plain
 	for nodes in 1 4 16; do
-		measure "mesh of $size points, $nodes nodes" "$work" --mesh 7 --size $size --nodes $nodes
+		measure "mesh of $size points, $nodes nodes" "$work" "$play" --mesh 7 --size $size --nodes $nodes
+		measure "the same on threads" "$work" "$run" --mesh 7 --size $size --nodes $nodes
 	done
 done

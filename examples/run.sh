@@ -1,17 +1,26 @@
 #!/bin/sh
-# Runs each example with its data files, on one machine and on nodes, and compares what it writes with what is expected.
+# Runs each example with its data files, on one machine, on nodes in turns and on threads, and compares what it writes with what is expected.
 here=$(cd "$(dirname "$0")" && pwd)
-program=$here/../crates/chaosplay/out/chaosplay
+play=$here/../crates/chaosplay/out/chaosplay
+run=$here/../crates/chaosrun/out/chaosrun
 failed=0
+
+compare() {
+	if "$@" | cmp -s - expected.txt; then
+		echo "$*: as expected"
+	else
+		echo "$*: differs"
+		failed=1
+	fi
+}
+
 for name in sweep product histogram offence; do
 	cd "$here/$name" || exit 1
 	for words in "--plain" "--nodes 1" "--nodes 4" "--nodes 16 --iterations most --turns 7"; do
-		if "$program" "$name.fd" $words | cmp -s - expected.txt; then
-			echo "$name $words: as expected"
-		else
-			echo "$name $words: differs"
-			failed=1
-		fi
+		compare "$play" "$name.fd" $words
+	done
+	for words in "--nodes 1" "--nodes 4" "--nodes 16 --iterations most"; do
+		compare "$run" "$name.fd" $words
 	done
 done
 exit $failed

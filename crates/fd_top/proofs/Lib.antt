@@ -1,3 +1,5 @@
 pub mod Ending
 pub mod Answered
 pub mod Loaded
+pub mod Planning
+pub mod Heading

@@ -1,4 +1,4 @@
--- What comes of a call: its status, what it writes, and what was played.
+-- What comes of a call: its status, what it writes, and the letters that it leaves.
 use Rattle.std.specs.Prelude.{ℕ, ℤ, ◌≡◌, ◌<◌, ◌≤◌, Bool, true, false, if◌then◌else◌, List, ◌++◌, length, Option, Some, None, Ok, Err, IfSome, IsSomeAnd, codes}
 use Rattle.fd_words.specs.declared.source.SourceFault.{SourceFault}
 use Rattle.fd_outside.specs.Causes.{Rose}
@@ -10,7 +10,7 @@ use Rattle.fd_program.specs.Texts.{text_of}
 use Rattle.fd_program.specs.declared.loop_facts.HomeRule.{HomeRule}
 use Rattle.fd_program.specs.declared.loop_facts.HomeRule.TheVariants as home
 use Rattle.fd_program.specs.declared.refused.Refused.{Refused}
-use Rattle.fd_command.specs.Asked.{Asked, AskedOrigin, file, mesh, asked}
+use Rattle.fd_command.specs.Asked.{Asked, AskedOrigin, file, mesh}
 use Rattle.fd_command.specs.declared.request.Iterations.{Iterations}
 use Rattle.fd_command.specs.declared.request.Iterations.TheVariants as iterations
 use Rattle.fd_command.specs.declared.request.Manner.{Manner}
@@ -56,15 +56,15 @@ pub record Reading : Type 0 where
 abbrev pub reading : Told → Counts → Counts → Reading
 reading contents before now = record { contents = contents; before = before; now = now }
 
--- what comes of a call: the status, the bytes to write, and what was played, if the nodes took turns
-pub record Outcome : Type 0 where
+-- What comes of a call: the status, the bytes to write, and the letters that are left, if nodes ran. Those stand in what was played, or in a Mail.
+pub record Outcome (A : Type 0) : Type 0 where
   pub status : ℕ
   pub bytes : List ℕ
-  pub played : Option Played
+  pub letters : Option A
 
--- a line and no turns
-abbrev pub a_line : ℕ → List ℕ → Outcome
-a_line status bytes = record { status = status; bytes = bytes; played = None }
+-- a line, and no node ran
+abbrev pub a_line : {A : Type 0} → ℕ → List ℕ → Outcome A
+a_line status bytes = record { status = status; bytes = bytes; letters = None }
 
 -- 3 where a run is refused, else 0
 abbrev pub status_of_run : Option Refused → ℕ
@@ -74,14 +74,14 @@ status_of_run (Some refused) = 3
 -- ---- a run over data
 
 -- the sequential run's status, and what is written of it
-pub record IsRunOf (s : Source) (store : List (List ℤ)) (written : List ℕ) (o : Outcome) : Type 0 where
+pub record IsRunOf {A : Type 0} (s : Source) (store : List (List ℤ)) (written : List ℕ) (o : Outcome A) : Type 0 where
   pub status : o.status ≡ status_of_run (run_of s.checked store).refused
   pub bytes : o.bytes ≡ written
 
 -- on one machine, without turns: its text is written
-pub record RunsPlainly (s : Source) (store : List (List ℤ)) (o : Outcome) : Type 0 where
+pub record RunsPlainly (s : Source) (store : List (List ℤ)) (o : Outcome Played) : Type 0 where
   pub run : IsRunOf s store (text_of s.checked store) o
-  pub plain : o.played ≡ None
+  pub plain : o.letters ≡ None
 
 abbrev pub order_of : Turns → Order
 order_of turns.RoundRobin = order.RoundRobin
@@ -106,29 +106,32 @@ pub record IsPlay (m : Manner) (s : Source) (store : List (List ℤ)) (played : 
   pub moves : IsOrdered (plan_for m s store) (order_of m.turns) played.moved played.sent
 
 -- on nodes that take turns
-pub record RunsInTurns (m : Manner) (s : Source) (store : List (List ℤ)) (o : Outcome) : Type 0 where
+pub record RunsInTurns (m : Manner) (s : Source) (store : List (List ℤ)) (o : Outcome Played) : Type 0 where
   pub run : IsRunOf s store (written_for m s store) o
-  pub turns : IsSomeAnd o.played (IsPlay m s store)
+  pub turns : IsSomeAnd o.letters (IsPlay m s store)
 
--- what a source comes to over its data files: one that can't be read or is faulty, or a run from the store that they give
-pub data OverData (r : Reading) (s : Source) (Runs : List (List ℤ) → Outcome → Type 0) : Outcome → Type 0 where
+-- on one machine, or on nodes
+abbrev pub PlaysBy : Bool → Manner → Source → List (List ℤ) → Outcome Played → Type 0
+PlaysBy true m s = RunsPlainly s
+PlaysBy false m s = RunsInTurns m s
+
+abbrev pub Plays : Manner → Source → List (List ℤ) → Outcome Played → Type 0
+Plays m = PlaysBy m.plain m
+
+-- ---- a source, which has runs of some kind over a store
+
+-- what it comes to over its data files: one that can't be read or is faulty, or a run from the store that they give
+pub data OverData {A : Type 0} (r : Reading) (s : Source) (Runs : List (List ℤ) → Outcome A → Type 0) : Outcome A → Type 0 where
   unread_file : (array : ℕ) → IsLoaded r.contents r.before r.now s.checked (Err (Unread array))
       → OverData r s Runs (a_line 69 (unread_line (file_of (array_at s.checked.arrays array))))
   faulty_file : (array : ℕ) (fault : DataFault) → IsLoaded r.contents r.before r.now s.checked (Err (Fault array fault))
       → OverData r s Runs (a_line 66 (data_line (array_at s.checked.arrays array).name fault))
-  ran : (store : List (List ℤ)) → IsLoaded r.contents r.before r.now s.checked (Ok store) → (o : Outcome) → Runs store o → OverData r s Runs o
-
--- ---- a source
-
--- what a source comes to on one machine, or on nodes
-abbrev pub ComesOf : Bool → Manner → Reading → Source → Outcome → Type 0
-ComesOf true m r s o = OverData r s (RunsPlainly s) o
-ComesOf false m r s o = OverData r s (RunsInTurns m s) o
+  ran : (store : List (List ℤ)) → IsLoaded r.contents r.before r.now s.checked (Ok store) → (o : Outcome A) → Runs store o → OverData r s Runs o
 
 -- what a text comes to
-pub data Comes (m : Manner) (r : Reading) (text : List ℕ) : Outcome → Type 0 where
-  refused : (fault : SourceFault) → IsSourceFault text fault → Comes m r text (a_line 65 (fault_line fault))
-  accepted : (s : Source) → IsSource text s → (o : Outcome) → ComesOf m.plain m r s o → Comes m r text o
+pub data Comes {A : Type 0} (Runs : Source → List (List ℤ) → Outcome A → Type 0) (r : Reading) (text : List ℕ) : Outcome A → Type 0 where
+  refused : (fault : SourceFault) → IsSourceFault text fault → Comes Runs r text (a_line 65 (fault_line fault))
+  accepted : (s : Source) → IsSource text s → (o : Outcome A) → OverData r s (Runs s) o → Comes Runs r text o
 
 -- ---- where the text and the data come from
 
@@ -153,13 +156,13 @@ SourceFailed (file source) r name = (name ≡ source) × Rose (r.before name) (r
 SourceFailed (mesh seed size) r name = ⊥
 
 -- What comes of a source or a mesh: a source that can't be read or is too long, or what its text comes to.
-pub data FromOrigin (origin : AskedOrigin) (m : Manner) (r : Reading) : Outcome → Type 0 where
-  unread : (name : List ℕ) → SourceFailed origin r name → FromOrigin origin m r (a_line 69 (unread_line name))
-  too_long : IsLong r.contents origin → FromOrigin origin m r (a_line 65 too_long_line)
-  source : (text : List ℕ) → IsText r.contents origin text → length text ≤ 1048576 → (o : Outcome) → Comes m (data_read origin r) text o
-      → FromOrigin origin m r o
+pub data FromOrigin {A : Type 0} (Runs : Source → List (List ℤ) → Outcome A → Type 0) (origin : AskedOrigin) (r : Reading) : Outcome A → Type 0 where
+  unread : (name : List ℕ) → SourceFailed origin r name → FromOrigin Runs origin r (a_line 69 (unread_line name))
+  too_long : IsLong r.contents origin → FromOrigin Runs origin r (a_line 65 too_long_line)
+  source : (text : List ℕ) → IsText r.contents origin text → length text ≤ 1048576 → (o : Outcome A) → Comes Runs (data_read origin r) text o
+      → FromOrigin Runs origin r o
 
--- what a call comes to: words that aren't taken, or what comes of what they ask for
-pub data ToCome (words : List (List ℕ)) (r : Reading) : Outcome → Type 0 where
-  untaken : asked words ≡ None → ToCome words r (a_line 2 usage_line)
-  taken : (w : Asked) → asked words ≡ Some w → (o : Outcome) → FromOrigin w.origin w.manner r o → ToCome words r o
+-- What a call comes to: the usage line for words that aren't taken, or what comes of what they ask for.
+pub data ToCome {A : Type 0} (usage : List ℕ) (Runs : Manner → Source → List (List ℤ) → Outcome A → Type 0) (request : Option Asked) (r : Reading) : Outcome A → Type 0 where
+  untaken : request ≡ None → ToCome usage Runs request r (a_line 2 usage)
+  taken : (w : Asked) → request ≡ Some w → (o : Outcome A) → FromOrigin (Runs w.manner) w.origin r o → ToCome usage Runs request r o

@@ -4,6 +4,9 @@
 mod end;
 mod made;
 mod planned;
+mod run;
+mod threaded;
 mod top;
 
+pub use run::run_program;
 pub use top::play_program;

@@ -10,7 +10,7 @@ ghost use Rattle.fd_program.specs.Checks.{IsChecked};
 ghost use Rattle.fd_program.specs.Stores.{FitsStore};
 ghost use Rattle.chaos_run.specs.Limits.{IsWithin};
 ghost use Rattle.fd_trace.specs.Way.{IsUnrolled};
-ghost use Rattle.fd_top.specs.Outcomes.{a_line, reading, order_of, rule_of, RunsPlainly, RunsInTurns, OverData, ComesOf, Comes};
+ghost use Rattle.fd_top.specs.Outcomes.{a_line, reading, order_of, rule_of, RunsPlainly, RunsInTurns, Plays, OverData, Comes};
 ghost use Rattle.fd_top.specs.Stops.{planned, IsRefused, IsStopped};
 
 use bsp_core::Played;
@@ -47,7 +47,7 @@ impl Planned {
 }
 
 /// The status of a run.
-fn status_of(is_refused: bool) -> u8
+pub(crate) fn status_of(is_refused: bool) -> u8
     ensures { result ≡ (if is_refused then 3 else 0) }
 {
     if is_refused { 3 } else { 0 }
@@ -61,7 +61,7 @@ fn refused(alloc: Global, fault: SourceFault) -> Result<Planned, Memory>
 }
 
 /// The line for a text that isn't accepted.
-fn stop_planned(alloc: Global, stop: SourceStop) -> Result<Planned, Memory>
+pub(crate) fn stop_planned(alloc: Global, stop: SourceStop) -> Result<Planned, Memory>
     ensures { IfOk result (λ plan. IsRefused stop (planned plan)) }
 {
     match stop {
@@ -95,7 +95,11 @@ fn faulty_planned(
 }
 
 /// The line for data files that gave no store.
-fn stopped_planned(alloc: Global, source: &Source, stop: LoadStop) -> Result<Planned, Memory>
+pub(crate) fn stopped_planned(
+    alloc: Global,
+    source: &Source,
+    stop: LoadStop,
+) -> Result<Planned, Memory>
     ensures { IfOk result (λ plan. IsStopped source.now stop (planned plan)) }
 {
     match stop {
@@ -141,7 +145,7 @@ fn order(turns: Turns) -> Order
 }
 
 /// The rule for the homes of iterations.
-fn rule(iterations: Iterations) -> HomeRule
+pub(crate) fn rule(iterations: Iterations) -> HomeRule
     ensures { result ≡ rule_of iterations }
 {
     match iterations {
@@ -151,7 +155,7 @@ fn rule(iterations: Iterations) -> HomeRule
 }
 
 /// What is written of a run: its text, and its report where one is asked for.
-fn written(end: EngineEnd, report: bool) -> Result<Bytes, Memory>
+pub(crate) fn written(end: EngineEnd, report: bool) -> Result<Bytes, Memory>
     ensures { IfOk result (λ bytes. bytes ≡ (if report then end.text ++ end.report else end.text)) }
 {
     let EngineEnd {
@@ -229,7 +233,7 @@ fn source_planned<F: Files>(
     requires trace { IsUnrolled source.checked (Ok source.trace) }
     requires some_nodes { 1 ≤ manner.nodes }
     requires few_nodes { manner.nodes ≤ 16 }
-    ensures planned { IfOk result (λ plan. ComesOf manner.plain manner (reading (F.contents files.old) (F.faults files.old) (F.faults files.new)) source (planned plan)) }
+    ensures planned { IfOk result (λ plan. OverData (reading (F.contents files.old) (F.faults files.old) (F.faults files.new)) source (Plays manner source) (planned plan)) }
     ensures contents { F.contents files.new ≡ F.contents files.old }
     ensures faults { NoneFell (F.faults files.old) (F.faults files.new) }
 {
@@ -250,7 +254,7 @@ pub(crate) fn text_planned<F: Files>(
     requires short { length text.now ≤ 1048576 }
     requires some_nodes { 1 ≤ manner.nodes }
     requires few_nodes { manner.nodes ≤ 16 }
-    ensures planned { IfOk result (λ plan. Comes manner (reading (F.contents files.old) (F.faults files.old) (F.faults files.new)) text.now (planned plan)) }
+    ensures planned { IfOk result (λ plan. Comes (Plays manner) (reading (F.contents files.old) (F.faults files.old) (F.faults files.new)) text.now (planned plan)) }
     ensures contents { F.contents files.new ≡ F.contents files.old }
     ensures faults { NoneFell (F.faults files.old) (F.faults files.new) }
 {

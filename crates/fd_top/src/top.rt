@@ -1,29 +1,27 @@
 ghost use Rattle.std.specs.Prelude.{◌≡◌, ◌≤◌, ◌⊎◌, length, map, string_bytes};
 ghost use Rattle.fd_outside.specs.Causes.{Rose, NoneFell};
-ghost use Rattle.fd_command.specs.Asked.{file, mesh};
-ghost use Rattle.fd_load.specs.Lines.{unread_line};
+ghost use Rattle.fd_command.specs.Asked.{asked, file, mesh};
 ghost use Rattle.fd_command.specs.Shown.{shown_origin, HasMeshInRange};
-ghost use Rattle.fd_top.specs.Outcomes.{Reading, reading, a_line, Comes, FromOrigin};
-ghost use Rattle.fd_top.specs.Answers.{left, Ends, EndsBy, IsAnswer, IsWanting, NoneFailed, IsComplete, RanRight};
+ghost use Rattle.fd_top.specs.Outcomes.{Reading, reading, usage_line, Plays, Comes, FromOrigin, ToCome};
+ghost use Rattle.fd_top.specs.Answers.{left, Stays, EndsBy, NoneFailed, IsComplete, RanRight};
 
-use crate::end::{end, end_planned};
+use crate::end::{end, end_planned, end_unread};
 use crate::made::MadeFiles;
 use crate::planned::text_planned;
 use bsp_core::Played;
 use fd_command::{Manner, Origin, Refused, Request, requested};
-use fd_load::unread_line;
 use fd_mesh::mesh;
 use fd_outside::{Files, ReadStop, Sink, read_whole};
 use fd_words::Memory;
 use std::alloc::Global;
 
 /// A source has at most so many bytes.
-const SOURCE_LIMIT: u64 = 1_048_576;
+pub(crate) const SOURCE_LIMIT: u64 = 1_048_576;
 
 const USAGE: &[u8] =
     b"usage: chaosplay (SOURCE | --mesh SEED --size N) [--nodes N] [--iterations owner|most] [--report] [--turns SEED] [--plain]\n";
 
-const TOO_LONG: &[u8] = b"source: longer than 1048576 bytes\n";
+pub(crate) const TOO_LONG: &[u8] = b"source: longer than 1048576 bytes\n";
 
 /// Runs a text and writes what it comes to.
 fn play_text<F: Files, S: Sink>(
@@ -37,7 +35,7 @@ fn play_text<F: Files, S: Sink>(
     requires short { length text.now ≤ 1048576 }
     requires some_nodes { 1 ≤ manner.nodes }
     requires few_nodes { manner.nodes ≤ 16 }
-    ensures ends { EndsBy (Comes manner (reading (F.contents files.old) (F.faults files.old) (F.faults files.new)) text.now) result
+    ensures ends { EndsBy (Comes (Plays manner) (reading (F.contents files.old) (F.faults files.old) (F.faults files.new)) text.now) Stays result
         (left (S.faults out.old) (S.written out.old) played.old) (left (S.faults out.new) (S.written out.new) played.new) }
     ensures contents { F.contents files.new ≡ F.contents files.old }
     ensures faults { NoneFell (F.faults files.old) (F.faults files.new) }
@@ -45,18 +43,6 @@ fn play_text<F: Files, S: Sink>(
 {
     match text_planned(alloc, text, manner, files) {
         Ok(plan) => end_planned(out, played, plan),
-        Err(Memory) => 70,
-    }
-}
-
-/// Writes that a file can't be read.
-fn play_unread<S: Sink>(alloc: Global, name: &str, out: &mut S) -> u8
-    ensures ends { (played : Played) → EndsBy (λ o. o ≡ a_line 69 (unread_line name.now)) result
-        (left (S.faults out.old) (S.written out.old) played) (left (S.faults out.new) (S.written out.new) played) }
-    ensures later { S.faults out.old ≤ S.faults out.new }
-{
-    match unread_line(alloc, name) {
-        Ok(line) => end(out, 69, line.as_slice()),
         Err(Memory) => 70,
     }
 }
@@ -72,7 +58,7 @@ fn play_file<F: Files, S: Sink>(
 ) -> u8
     requires some_nodes { 1 ≤ manner.nodes }
     requires few_nodes { manner.nodes ≤ 16 }
-    ensures ends { EndsBy (FromOrigin (file name.now) manner (reading (F.contents files.old) (F.faults files.old) (F.faults files.new))) result
+    ensures ends { EndsBy (FromOrigin (Plays manner) (file name.now) (reading (F.contents files.old) (F.faults files.old) (F.faults files.new))) Stays result
         (left (S.faults out.old) (S.written out.old) played.old) (left (S.faults out.new) (S.written out.new) played.new) }
     ensures contents { F.contents files.new ≡ F.contents files.old }
     ensures faults { NoneFell (F.faults files.old) (F.faults files.new) }
@@ -81,7 +67,7 @@ fn play_file<F: Files, S: Sink>(
     match read_whole(alloc, files, name, SOURCE_LIMIT) {
         Ok(text) => play_text(alloc, text.as_slice(), manner, files, out, played),
         Err(ReadStop::TooLong) => end(out, 65, TOO_LONG),
-        Err(ReadStop::Failed) => play_unread(alloc, name, out),
+        Err(ReadStop::Failed) => end_unread(alloc, name, out),
         Err(ReadStop::Memory) => 70,
     }
 }
@@ -99,7 +85,7 @@ fn play_mesh<S: Sink>(
     requires most { size ≤ 100000 }
     requires some_nodes { 1 ≤ manner.nodes }
     requires few_nodes { manner.nodes ≤ 16 }
-    ensures ends { (r : Reading) → EndsBy (FromOrigin (mesh seed size) manner r) result
+    ensures ends { (r : Reading) → EndsBy (FromOrigin (Plays manner) (mesh seed size) r) Stays result
         (left (S.faults out.old) (S.written out.old) played.old) (left (S.faults out.new) (S.written out.new) played.new) }
     ensures failures { S.faults out.old ≤ S.faults out.new }
 {
@@ -125,7 +111,7 @@ fn play_request<F: Files, S: Sink>(
     requires some_nodes { 1 ≤ request.now.manner.nodes }
     requires few_nodes { request.now.manner.nodes ≤ 16 }
     requires range { HasMeshInRange request.now.origin }
-    ensures ends { EndsBy (FromOrigin (shown_origin request.now.origin) request.now.manner (reading (F.contents files.old) (F.faults files.old) (F.faults files.new))) result
+    ensures ends { EndsBy (FromOrigin (Plays request.now.manner) (shown_origin request.now.origin) (reading (F.contents files.old) (F.faults files.old) (F.faults files.new))) Stays result
         (left (S.faults out.old) (S.written out.old) played.old) (left (S.faults out.new) (S.written out.new) played.new) }
     ensures contents { F.contents files.new ≡ F.contents files.old }
     ensures faults { NoneFell (F.faults files.old) (F.faults files.new) }
@@ -145,7 +131,7 @@ fn play<F: Files, S: Sink>(
     out: &mut S,
     played: &mut Played,
 ) -> u8
-    ensures answer { IsAnswer (map string_bytes words.now) (reading (F.contents files.old) (F.faults files.old) (F.faults files.new)) result
+    ensures answer { EndsBy (ToCome usage_line Plays (asked (map string_bytes words.now)) (reading (F.contents files.old) (F.faults files.old) (F.faults files.new))) Stays result
         (left (S.faults out.old) (S.written out.old) played.old) (left (S.faults out.new) (S.written out.new) played.new) }
     ensures contents { F.contents files.new ≡ F.contents files.old }
     ensures faults { NoneFell (F.faults files.old) (F.faults files.new) }
@@ -174,16 +160,16 @@ pub fn play_program<F: Files, S: Sink>(
     out: &mut S,
     played: &mut Played,
 ) -> u8
-    ensures answer { IsAnswer (map string_bytes words.now) (reading (F.contents files.old) (F.faults files.old) (F.faults files.new)) result
+    ensures answer { EndsBy (ToCome usage_line Plays (asked (map string_bytes words.now)) (reading (F.contents files.old) (F.faults files.old) (F.faults files.new))) Stays result
         (left (S.faults out.old) (S.written out.old) played.old) (left (S.faults out.new) (S.written out.new) played.new) }
     ensures complete { (Rose (S.faults out.old) (S.faults out.new) → ⊥)
-        → NoneFailed (map string_bytes words.now) (reading (F.contents files.old) (F.faults files.old) (F.faults files.new))
-        → IsComplete (map string_bytes words.now) (reading (F.contents files.old) (F.faults files.old) (F.faults files.new)) result
+        → NoneFailed (asked (map string_bytes words.now)) (reading (F.contents files.old) (F.faults files.old) (F.faults files.new))
+        → IsComplete (ToCome usage_line Plays (asked (map string_bytes words.now)) (reading (F.contents files.old) (F.faults files.old) (F.faults files.new))) Stays result
         (left (S.faults out.old) (S.written out.old) played.old) (left (S.faults out.new) (S.written out.new) played.new) }
 
     // the headline: the text of the sequential run, and the refusal, for every source that is run
     ensures ran { (result ≡ 0) ⊎ (result ≡ 3)
-        → RanRight (map string_bytes words.now) (reading (F.contents files.old) (F.faults files.old) (F.faults files.new)) result
+        → RanRight Plays (asked (map string_bytes words.now)) (reading (F.contents files.old) (F.faults files.old) (F.faults files.new)) result
         (left (S.faults out.old) (S.written out.old) played.old) (left (S.faults out.new) (S.written out.new) played.new) }
 
     // the outside
