@@ -1,4 +1,4 @@
-ghost use Rattle.std.specs.Prelude.{◌≡◌, ◌+◌, ◌<◌, ◌^◌, fold, IfOk};
+ghost use Rattle.std.specs.Prelude.{◌≡◌, ◌+◌, ◌<◌, ◌≤◌, ◌^◌, fold, IfOk};
 ghost use Rattle.std.specs.Option.{option_copied};
 ghost use Rattle.fd_program.specs.Reports.{plus_count};
 ghost use Rattle.fd_program.specs.Trace.{site_at};
@@ -16,14 +16,15 @@ use std::alloc::Global;
 
 /// Notes that an execution of a FORALL with these references changed the arrays of its targets.
 fn note_targets(records: &mut Records, references: &[Reference], execution: u64)
-    ensures { execution < 2 ^ 32 → records.new ≡ fold (noted execution) records.old references.now }
+    ensures noted { execution < 2 ^ 32 → records.new ≡ fold (noted execution) records.old references.now }
+    ensures late { 2 ^ 32 ≤ execution → records.new ≡ records.old }
 {
     if execution < 4_294_967_296 {
         note_writes(records, references, execution);
     }
 }
 
-/// The records after an execution of a FORALL.
+/// The records after an execution of a FORALL. They stay from execution 2^32 on, which no run has.
 pub fn records_of_execution(
     alloc: Global,
     records: &Records,
@@ -31,7 +32,8 @@ pub fn records_of_execution(
     site: u32,
     execution: u64,
 ) -> Result<Records, Memory>
-    ensures { IfOk result (λ after. execution < 2 ^ 32 → after ≡ fold (noted execution) records.now (site_at sites.now site).references) }
+    ensures noted { IfOk result (λ after. execution < 2 ^ 32 → after ≡ fold (noted execution) records.now (site_at sites.now site).references) }
+    ensures late { IfOk result (λ after. 2 ^ 32 ≤ execution → after ≡ records.now) }
 {
     let mut after = records.copy(alloc)?;
     match sites.get(site as usize) {

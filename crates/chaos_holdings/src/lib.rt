@@ -9,6 +9,7 @@ mod first;
 mod holdings;
 mod kept_list;
 mod moved;
+mod pages;
 mod session;
 
 pub use effect::{Effect, take_effect};
@@ -17,4 +18,5 @@ pub use first::{counts_of_none, first_holdings};
 pub use holdings::Holdings;
 pub use kept_list::{KeptList, kept_of};
 pub use moved::{elements_after, parts_after, records_of_move};
+pub use pages::pages_after;
 pub use session::{NodeEnd, Session};

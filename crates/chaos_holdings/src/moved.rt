@@ -1,4 +1,4 @@
-ghost use Rattle.std.specs.Prelude.{◌≡◌, ◌<◌, ◌^◌, pos, length, slice_set, ◌<ℤ◌, IfOk};
+ghost use Rattle.std.specs.Prelude.{◌≡◌, ◌<◌, ◌^◌, pos, length, slice_set, ◌≤◌, ◌<ℤ◌, ◌≤ℤ◌, IfOk};
 ghost use Rattle.chaos_records.specs.Keeping.{moved as noted_move, setting_in};
 ghost use Rattle.fd_words.specs.Lists.{list_at};
 ghost use Rattle.chaos_holdings.specs.Parts.{parts_with};
@@ -56,14 +56,17 @@ pub fn parts_after(
     Ok(lists)
 }
 
-/// The records, where a decomposition is given a form.
+/// The records, where a decomposition is given a form. They stay where there is no such decomposition, and where its
+/// version has come to 2^32, which it doesn't in a run.
 pub fn records_of_move(
     alloc: Global,
     records: &Records,
     decomposition: u32,
     form: StepForm,
 ) -> Result<Records, Memory>
-    ensures { IfOk result (λ r. decomposition < length records.now.settings → (setting_in records.now decomposition).version <ℤ pos (2 ^ 32) → r ≡ noted_move records.now decomposition form) }
+    ensures moved { IfOk result (λ r. decomposition < length records.now.settings → (setting_in records.now decomposition).version <ℤ pos (2 ^ 32) → r ≡ noted_move records.now decomposition form) }
+    ensures absent { IfOk result (λ r. length records.now.settings ≤ decomposition → r ≡ records.now) }
+    ensures full { IfOk result (λ r. decomposition < length records.now.settings → pos (2 ^ 32) ≤ℤ (setting_in records.now decomposition).version → r ≡ records.now) }
 {
     let mut after = records.copy(alloc)?;
     if (decomposition as usize) < records.layouts()

@@ -1,13 +1,10 @@
 -- Where a node is at the end of a phase of an execution, and what the steps of the plan tell there.
-use Rattle.std.specs.Prelude.{◌≡◌, refl, ℕ, zero, suc, ◌+◌, ◌<◌, ◌≤◌, List, [], ◌∷◌, ◌++◌, drop, length, map, reverse, Option, Some, None}
+use Rattle.std.specs.Prelude.{◌≡◌, ℕ, ◌+◌, ◌<◌, ◌≤◌, List, [], ◌∷◌, ◌++◌, drop, length, reverse, Some}
 use Rattle.std.specs.List.{AllByRecursion}
 use Rattle.std.specs.Option.{option_and_then}
-use Rattle.std.proofs.Common.{ap, sym, ◌∙◌, subst, arith}
+use Rattle.std.proofs.Common.{ap, sym, ◌∙◌, subst}
 use Rattle.std.proofs.lemmas.Grind.{reverse_onto}
-use Rattle.bsp_core.specs.Views.{Face, View, next_with, ready}
-use Rattle.bsp_core.specs.declared.phased.Want.TheVariants.{Send, Take, Work, Done}
-use Rattle.chaos_letter.specs.declared.letter.Letter.{Letter}
-use Rattle.chaos_letter.specs.declared.wanted.Wanted.{Wanted}
+use Rattle.bsp_core.specs.Views.{Face, View, ready}
 use Rattle.chaos_facts.specs.FactsLaws.{IsStepIn, StepsAreIn}
 use Rattle.fd_program.specs.Checks.{IsChecked}
 use Rattle.fd_program.specs.Trace.{trace_of}
@@ -22,15 +19,6 @@ use Rattle.chaos_run.specs.Phases.{Phase}
 use Rattle.chaos_run.specs.Rows.{RunPlan, face_left, node_row, phases_in, scene_in}
 use Rattle.chaos_holdings.specs.Executions.{turn_by, turn_in}
 use Rattle.chaos_entering.specs.State.{NodeState}
-
--- ---- the face
-
--- where work is due, a phase is left
-pub work_left : (left : ℕ) (due : List (ℕ × Wanted)) (out : List (ℕ × Letter)) → next_with left due out ≡ Work → 1 ≤ left
-work_left left due (x ∷ xs) e = cc
-work_left left (x ∷ xs) [] e = cc
-work_left zero [] [] e = cc
-work_left (suc left) [] [] e = omega arith
 
 -- node p at the end of phase t, which is `f`
 pub record EndsPhase (plan : RunPlan) (t p : ℕ) (f : Phase) (later : List Phase) (v : View NodeState) : Type 0 where

@@ -1,4 +1,4 @@
-ghost use Rattle.std.specs.Prelude.{◌≡◌, None, true, is_some, slice_set, IfOk};
+ghost use Rattle.std.specs.Prelude.{◌≡◌, None, true, is_some, IfOk};
 ghost use Rattle.bsp_core.specs.Views.{next_of};
 ghost use Rattle.bsp_core.specs.declared.phased.Want.TheVariants.{Work};
 ghost use Rattle.chaos_entering.specs.declared.activity.Activity.TheVariants as activity;
@@ -8,58 +8,14 @@ ghost use Rattle.chaos_moving.specs.Stages.{stage_in};
 
 use crate::change::Change;
 use crate::node::Node;
-use chaos_asking::PageSet;
 use chaos_entering::{enter_move, enter_next};
 use chaos_facts::facts_are_known;
-use chaos_holdings::{Effect, elements_after, parts_after, records_of_move};
+use chaos_holdings::{Effect, elements_after, pages_after, parts_after, records_of_move};
 use chaos_moving::Moving;
 use chaos_places::taken_lists;
 use chaos_records::notes_keep_the_past;
-use chaos_table::Pages;
-use fd_words::{Bytes, Memory, Places};
-use sqlite_items::Items;
+use fd_words::{Bytes, Memory};
 use std::alloc::Global;
-
-/// An equal page.
-fn copy_page(alloc: Global, page: &Option<Pages>) -> Result<Option<Pages>, Memory>
-    ensures { IfOk result (λ copy. copy ≡ page.now) }
-{
-    match page {
-        Some(page) => Ok(Some(Pages {
-            first: page.first,
-            places: Places::from_slice(alloc, page.places.as_slice())?,
-        })),
-        None => Ok(None),
-    }
-}
-
-/// Equal pages.
-fn copy_pages(alloc: Global, pages: &[Option<Pages>]) -> Result<PageSet, Memory>
-    ensures { IfOk result (λ copy. copy ≡ pages.now) }
-{
-    let mut copy = Vec::new(alloc);
-    for page in pages {
-        copy.push(copy_page(alloc, page)?)?;
-    }
-    Ok(Items::from_vec(copy))
-}
-
-/// The pages of all decompositions, where that of one is this.
-fn pages_after(
-    alloc: Global,
-    pages: &PageSet,
-    decomposition: u32,
-    page: &Option<Pages>,
-) -> Result<PageSet, Memory>
-    ensures { IfOk result (λ after. after ≡ slice_set pages.now decomposition page.now) }
-{
-    let page = copy_page(alloc, page)?;
-    let mut after = copy_pages(alloc, pages.as_slice())?;
-    if (decomposition as usize) < after.len() {
-        after.set(decomposition as usize, page);
-    }
-    Ok(after)
-}
 
 impl<'a> Node<'a> {
     /// Ends a stage of a move: the next stage follows, or the next step where all is moved.

@@ -19,4 +19,4 @@ returns-clause-right c =
     scatter_seen c.letters_have_counts.ensures.reported c.notes_keep_the_past.ensures.writes (shown c.self.inside) c.args.self.now c.args.prepared.now c.args.executing.now
     c.in_ok-parts.parts c.in_ok-records.records c.in_ok-count.count c.between_with-between.result c.next_number.result c.left_behind.result c.in_ok-entered.entered c.new.result
     c.in_ok-taken.taken c.as_slice-2.result.now c.self.view_is c.requires.at c.requires.kept c.left_behind.ensures c.new.ensures (c.in_ok-taken.ensures ∙ ap (λ (l : List Letter). put_in c.self.inside.me c.self.inside.at.own (map numbers_of l)) c.as_slice.ensures.value) c.in_ok-parts.ensures
-    c.as_slice-2.ensures c.in_ok-records.ensures c.in_ok-count.ensures c.between_with-between.ensures.is c.next_number.ensures c.in_ok-entered.ensures.right
+    c.as_slice-2.ensures c.in_ok-records.ensures.noted c.in_ok-count.ensures c.between_with-between.ensures.is c.next_number.ensures c.in_ok-entered.ensures.right
