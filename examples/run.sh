@@ -6,21 +6,24 @@ run=$here/../crates/chaosrun/out/chaosrun
 failed=0
 
 compare() {
+	name=$(basename "$1")
 	if "$@" | cmp -s - expected.txt; then
-		echo "$*: as expected"
+		result="as expected"
 	else
-		echo "$*: differs"
+		result="differs"
 		failed=1
 	fi
+	shift
+	echo "$name $*: $result"
 }
 
-for name in sweep product histogram offence; do
-	cd "$here/$name" || exit 1
+for example in sweep product histogram offence; do
+	cd "$here/$example" || exit 1
 	for words in "--plain" "--nodes 1" "--nodes 4" "--nodes 16 --iterations most --turns 7"; do
-		compare "$play" "$name.fd" $words
+		compare "$play" "$example.fd" $words
 	done
 	for words in "--nodes 1" "--nodes 4" "--nodes 16 --iterations most"; do
-		compare "$run" "$name.fd" $words
+		compare "$run" "$example.fd" $words
 	done
 done
 exit $failed

@@ -11,6 +11,7 @@ use bsp_core::Phased;
 use bsp_mail::Queues;
 use fd_outside::Gate;
 use std::sync::Wait;
+use std::thread;
 
 /// So many polls in a row of the wanted line are empty before a drive leaves off.
 const LIMIT: u32 = 65_536;
@@ -37,6 +38,8 @@ fn move_on<R: Wait, N: Phased, G: Gate>(
                 if polls == LIMIT {
                     return Ok(Drove::Waiting);
                 }
+                // The letter may have to come from a node that shares this processor.
+                thread::yield_now();
             }
             Err(fault) => return Err(fault),
         }
