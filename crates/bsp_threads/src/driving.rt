@@ -49,8 +49,8 @@ fn move_on<R: Wait, N: Phased, G: Gate>(
 
 /// Moves the node until it is done (`Finished`), or until 65,536 polls in a row of the line that it
 /// wants a letter of were empty (`Waiting`). Before each work it passes the gate, with its number and
-/// its works so far. A fault stops the seat: `Stray` where a letter that was taken doesn't fit, or want
-/// of memory.
+/// its works so far. Between two empty polls it lets other threads run. A fault stops the seat: `Stray`
+/// where a letter that was taken doesn't fit, or want of memory.
 ///
 /// Whatever the answer, the node did only what was due, and its mail seat put and took the letters of
 /// that; after `Memory` the last letter that the node posted may not have been put, and after `Stray`

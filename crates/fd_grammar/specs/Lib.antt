@@ -4,5 +4,7 @@ pub mod Grammar
 pub mod CompleteExpr
 pub mod Complete
 pub mod Viable
+pub mod Meaning
+pub mod SoundParts
 pub mod Sound
 pub mod Unambiguous
