@@ -334,9 +334,8 @@ fn examples(rt: HostRuntime) -> Result<(), Fail> {
 /// The edges of a cube, swept ten times, in each manner.
 #[test]
 fn sweeps(rt: HostRuntime) -> Result<(), Fail> {
-    let data =
-        "x.csv 8/0/0/0/0/0/0/0, m.csv 0/1/2/3/3/2/1/0, e1.csv 1/3/5/7/1/2/5/6/1/2/3/4, e2.csv 2/4/6/8/3/4/7/8/5/6/7/8";
-    let text = "X = 9942776 -9824672 -9824672 9706576 -9824672 9706576 9706576 -9588480\n";
+    let data = CUBE;
+    let text = SWEPT;
     let reported =
         "X = 9942776 -9824672 -9824672 9706576 -9824672 9706576 9706576 -9588480\nloop 11: executed 10, inspected 1, gathered 120, scattered 120\nloop 15: executed 10, inspected 1, gathered 0, scattered 0\n";
     let cases = [
@@ -357,4 +356,15 @@ fn sweeps(rt: HostRuntime) -> Result<(), Fail> {
         ("a.fd --plain", SWEEP, data, 0, text, None),
     ];
     all_come(&rt, rt.alloc(), cases.as_slice())
+}
+
+/// The same by threads on more nodes than processors, twenty times in a row: one text.
+#[test]
+fn sweeps_in_a_row(rt: HostRuntime) -> Result<(), Fail> {
+    for _ in 0..20 {
+        let files = files_of(rt.alloc(), SWEEP, CUBE, None)?;
+        let out = sink(rt.alloc(), None)?;
+        comes_by_threads(&rt, rt.alloc(), "a.fd --nodes 16", files, out, 0, SWEPT)?;
+    }
+    Ok(())
 }
