@@ -48,3 +48,8 @@ def mesh(points, edges, turns, name):
 for turns in (4, 40):
     mesh(100_000, 200_000, turns, f"sweep-{turns}")
     mesh(50_000, 100_000, turns, f"half-{turns}")
+
+# many executions of a loop over one element of a large array
+(folder / "small.fd").write_text(
+    "PROGRAM SMALL\nINTEGER*8 X(1000000), Y(1)\nOUTPUT Y\nDO K = 1, 5000\nFORALL I = 1, 1\nX(I) = K\nEND FORALL\nEND DO\nEND\n"
+)

@@ -37,3 +37,12 @@ for size in 50000 100000; do
 		measure "the same on threads" "$work" "$run" --mesh 7 --size $size --nodes $nodes
 	done
 done
+measure "5000 steps of one element" "$work" "$play" small.fd --plain
+for nodes in 1 4 16; do
+	measure "the same, $nodes nodes" "$work" "$play" small.fd --nodes $nodes
+	measure "the same on threads" "$work" "$run" small.fd --nodes $nodes
+done
+for turns in 4 40; do
+	measure "sweep, $turns steps, 4 nodes" "$work/sweep-$turns" "$play" sweep.fd --nodes 4
+	measure "the same on threads" "$work/sweep-$turns" "$run" sweep.fd --nodes 4
+done
