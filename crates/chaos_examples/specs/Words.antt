@@ -1,8 +1,13 @@
 -- Words for the letters of worked programs.
-use Rattle.std.specs.Prelude.{ℕ, pos, List, [], ◌∷◌, map, codes}
+use Rattle.std.specs.Prelude.{ℕ, ℤ, pos, List, [], ◌∷◌, map, codes}
+use Rattle.chaos_due.specs.Carried.{needed_at, places_of}
 use Rattle.chaos_letter.specs.declared.kind.Kind.{Kind}
 use Rattle.chaos_letter.specs.declared.letter.Letter.{Letter}
+use Rattle.fd_program.specs.Layouts.{scene_of}
+use Rattle.fd_program.specs.Reports.{completed_of}
+use Rattle.fd_program.specs.Runs.{run_of}
 use Rattle.fd_program.specs.declared.checked.Checked.{Checked}
+use Rattle.fd_program.specs.declared.loop_facts.HomeRule.TheVariants.{Owner}
 use Rattle.fd_examples.specs.Words.{array, layout, output}
 
 -- a letter of a kind, an execution and a site, with numbers that aren't negative
@@ -22,3 +27,7 @@ bare = record {
   sites = [];
   statements = [];
 }
+
+-- the arrays and elements that node p needs of q for execution k, by the owner rule
+abbrev pub needed_places : Checked → ℕ → List (List ℤ) → ℕ → ℕ → ℕ → List (ℤ × ℤ)
+needed_places c nodes store k p q = places_of (needed_at (scene_of c nodes Owner (run_of c store)) (completed_of (run_of c store)) k p q)
