@@ -102,8 +102,8 @@ fn noting<'a>(node: Node<'a>, begins: bool, execution: u64) -> Result<Node<'a>, 
     }
 }
 
-/// Drops a node that isn't begun.
-fn discard(_node: Node<'_>) {}
+/// Drops a node that isn't begun. It knows no type, since a drop of so large a one is dear to prove.
+fn discard<T: Drop>(_it: T) {}
 
 impl<'a> Node<'a> {
     /// The node of a number, with its local parts while every decomposition is in blocks.
