@@ -3,7 +3,7 @@ use Rattle.std.proofs.Common.{◌≡◌, ℕ, suc, zero, ◌+◌, ◌-◌, ◌*�
 use Rattle.std.proofs.lemmas.Bool.{cases_eq}
 use Rattle.std.proofs.Math.Arith.{digits_mod}
 use Rattle.bsp_core.specs.Views.{View}
-use Rattle.bsp_core.specs.Turns.{WorldState, Moves, Turn, Plays, Stops, IsUnchanged, IsStill, IsFirst, Draws, next_seed, drawn, nodes_below, rounds, total}
+use Rattle.bsp_core.specs.Turns.{WorldState, Moves, Turn, Plays, IsStill, IsFirst, Draws, next_seed, drawn, nodes_below, rounds, total}
 use Rattle.bsp_core.proofs.Places.{le_or_more}
 
 module _ {N S : Type 0} (view : N → View S) where
@@ -29,46 +29,11 @@ module _ {N S : Type 0} (view : N → View S) where
     | inr s ↦ (let e : length h.0.moved ≡ length a.moved = ap (λ (z : WorldState N). length z.moved) s.0 in omega (arith, e, plays_grow xs h.0 b h.2))
   ]
 
-  take_through : (xs ys : List ℕ) (k : ℕ) → take (length xs + k) (xs ++ ys) ≡ xs ++ take k ys
-  take_through [] ys k = ap (λ (j : ℕ). take j ys) (let e : 0 + k ≡ k = omega arith in e)
-  take_through (x ∷ xs) ys k = ap (λ (j : ℕ). take j (x ∷ (xs ++ ys))) (let e : suc (length xs) + k ≡ suc (length xs + k) = omega arith in e) ∙ ap (λ (z : List ℕ). x ∷ z) (take_through xs ys k)
-
-  pub stops_append : (xs ys : List ℕ) (a b c : WorldState N) → Plays view xs a b → Stops view ys b c → Stops view (xs ++ ys) a c
-  stops_append xs ys a b c h s =
-      (length xs + s.0, s.1, subst (λ (z : List ℕ). Plays view z a s.1) (sym (take_through xs ys s.0)) (plays_append xs (take s.0 ys) a b s.1 h s.2), s.3)
-
-  take_all : (xs : List ℕ) → take (length xs) xs ≡ xs
-  take_all [] = refl
-  take_all (x ∷ xs) = ap (λ (z : List ℕ). x ∷ z) (take_all xs)
-
   pub take_next : (xs : List ℕ) (i : ℕ) → i < length xs → take (i + 1) xs ≡ take i xs ++ slice_index xs i ∷ []
   take_next [] i l = absurd (omega arith)
   take_next (x ∷ xs) zero l = refl
   take_next (x ∷ xs) (suc i) l =
       ap (λ (j : ℕ). take j (x ∷ xs)) (let e : suc i + 1 ≡ suc (i + 1) = omega arith in e) ∙ ap (λ (z : List ℕ). x ∷ z) (take_next xs i (omega arith))
-
-  -- the first turns, and then one that failed
-  pub stops_at : (xs ys : List ℕ) (k : ℕ) (a b c : WorldState N) → Plays view xs a b → xs ≡ take k ys → IsUnchanged view b c → Stops view ys a c
-  stops_at xs ys k a b c h e s = (k, b, subst (λ (z : List ℕ). Plays view z a b) e h, s)
-
-  below_length : (n : ℕ) → length (nodes_below n) ≡ n
-  below_length zero = refl
-  below_length (suc n) = omega (arith, length-append (nodes_below n) (n ∷ []), below_length n)
-
-  below_front : (k n : ℕ) → k ≤ n → take k (nodes_below n) ≡ nodes_below k
-  below_front k zero l = let e : k ≡ 0 = omega arith in ap (λ (j : ℕ). take j (nodes_below zero)) e ∙ ap (λ (j : ℕ). nodes_below j) (sym e)
-  below_front k (suc n) l = elim (cases_eq k (suc n)) [
-    | inl e ↦ ap (λ (j : ℕ). take j (nodes_below (suc n))) (e ∙ sym (below_length (suc n))) ∙ take_all (nodes_below (suc n)) ∙ ap (λ (j : ℕ). nodes_below j) (sym e)
-    | inr e ↦ take_front k (nodes_below n) (n ∷ []) (omega (arith, below_length n)) ∙ below_front k n (omega arith)
-  ] where
-    take_front : (j : ℕ) (xs ys : List ℕ) → j ≤ length xs → take j (xs ++ ys) ≡ take j xs
-    take_front zero xs ys l = refl
-    take_front (suc j) [] ys l = absurd (omega arith)
-    take_front (suc j) (x ∷ xs) ys l = ap (λ (z : List ℕ). x ∷ z) (take_front j xs ys (omega arith))
-
-  -- a round that failed at node k
-  pub sweep_stops : (k n : ℕ) (a b c : WorldState N) → k ≤ n → Plays view (nodes_below k) a b → IsUnchanged view b c → Stops view (nodes_below n) a c
-  sweep_stops k n a b c l h s = stops_at (nodes_below k) (nodes_below n) k a b c h (sym (below_front k n l)) s
 
   pub sweep_next : (k : ℕ) (a b c : WorldState N) → Plays view (nodes_below k) a b → Turn view k b c → Plays view (nodes_below (k + 1)) a c
   sweep_next k a b c h t = subst (λ (j : ℕ). Plays view (nodes_below j) a c) (sym (add-one k)) (plays_last (nodes_below k) k a b c h t)
@@ -101,11 +66,8 @@ module _ {N S : Type 0} (view : N → View S) where
       subst (λ (z : ℕ). IsStill view z w) m.2 (h m.0 m.1)
 
   -- a round more
-  pub round_next : (k n m : ℕ) (a b c : WorldState N) → Plays view (rounds k n) a b → m ≡ n → Plays view (nodes_below m) b c → (j : ℕ) × Plays view (rounds j n) a c
-  round_next k n m a b c h e t = (suc k, plays_append (rounds k n) (nodes_below n) a b c h (subst (λ (z : ℕ). Plays view (nodes_below z) b c) e t))
-
-  pub round_stops : (k n m : ℕ) (a b c : WorldState N) → Plays view (rounds k n) a b → m ≡ n → Stops view (nodes_below m) b c → (j : ℕ) × Stops view (rounds j n) a c
-  round_stops k n m a b c h e t = (suc k, stops_append (rounds k n) (nodes_below n) a b c h (subst (λ (z : ℕ). Stops view (nodes_below z) b c) e t))
+  pub round_next : (k n m : ℕ) (a b c : WorldState N) → Plays view (rounds k n) a b → m ≡ n → Plays view (nodes_below m) b c → Plays view (rounds (suc k) n) a c
+  round_next k n m a b c h e t = plays_append (rounds k n) (nodes_below n) a b c h (subst (λ (z : ℕ). Plays view (nodes_below z) b c) e t)
 
   -- a turn more in a round
   pub sweep_keeps : (m k node : ℕ) (a b c : WorldState N) → (0 < m → total (map view b.nodes) < total (map view a.nodes)) → (m ≡ 0 → b ≡ a) → (m ≡ 0 → (p : ℕ) → p < node → IsStill view p b) →

@@ -1,5 +1,5 @@
 -- A World as plain lists, its place in a plan, and its turns.
-use Rattle.std.specs.Prelude.{◌≡◌, ℕ, ◌+◌, ◌*◌, ◌/◌, ◌%◌, ◌^◌, ◌<◌, List, [], ◌∷◌, ◌++◌, ◌≤◌, ◌⊎◌, length, map, slice_get, slice_set, Some, take}
+use Rattle.std.specs.Prelude.{◌≡◌, ℕ, ◌+◌, ◌*◌, ◌/◌, ◌%◌, ◌^◌, ◌<◌, List, [], ◌∷◌, ◌++◌, ◌≤◌, ◌⊎◌, length, map, slice_get, slice_set, Some}
 use Rattle.bsp_core.specs.declared.turned.Turned.{Turned}
 use Rattle.bsp_core.specs.declared.turned.Turned.TheVariants.{Moved, NotReady, Done}
 use Rattle.bsp_core.specs.declared.phased.Want.TheVariants.{Send, Take, Work, Done as AllDone}
@@ -122,9 +122,9 @@ abbrev pub Plays : {N S : Type 0} → (N → View S) → List ℕ → WorldState
 Plays view [] old new = new ≡ old
 Plays {N} view (p ∷ ps) old new = (mid : WorldState N) × Turn view p old mid × Plays view ps mid new
 
--- the first of these turns in order, and then one that failed
+-- these turns in order, and then one that failed
 abbrev pub Stops : {N S : Type 0} → (N → View S) → List ℕ → WorldState N → WorldState N → Type 0
-Stops {N} view ps old new = (k : ℕ) × (mid : WorldState N) × Plays view (take k ps) old mid × IsUnchanged view mid new
+Stops {N} view ps old new = (mid : WorldState N) × Plays view ps old mid × IsUnchanged view mid new
 
 -- k rounds of the nodes below n
 abbrev pub nodes_below : ℕ → List ℕ

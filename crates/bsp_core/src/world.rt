@@ -1,6 +1,7 @@
-ghost use Rattle.std.specs.Prelude.{◌≡◌, ℕ, ◌+◌, ◌*◌, ◌<◌, ◌≤◌, List, [], length, OnOk, OnErr, IfOk, ◌%◌, slice_index, replicate, map};
+ghost use Rattle.std.specs.Prelude.{◌≡◌, ℕ, ◌+◌, ◌*◌, ◌<◌, ◌≤◌, List, [], ◌∷◌, ◌++◌, length, take, OnOk, OnErr, IfOk, ◌%◌, slice_index, replicate, map};
 ghost use Rattle.bsp_core.specs.Lists.{items_of};
 ghost use Rattle.bsp_core.specs.Turns.{WorldState, TurnIs, IsUnchanged, IsStill, AreDone, total, AreTogether, StandsWhereItBegan, KeepsLockstep, Ends, Moves, Plays, Stops, nodes_below, rounds, IsFirst, Draws, next_seed, drawn};
+ghost use Rattle.bsp_core.specs.Script.{MovesBy, MovesDrawn};
 
 use crate::turns::turn_of;
 use crate::{NodeList, Phased, Played, Turned};
@@ -141,6 +142,7 @@ impl<N: Phased> World<N> {
         ensures moves { IfOk result (λ k. 0 < k → Moves N.view node self.old self.new) }
         ensures same { IfOk result (λ k. k ≡ 0 → self.new ≡ self.old) }
         ensures still { IfOk result (λ k. k ≡ 0 → IsStill N.view node self.old) }
+        ensures script { OnOk result (MovesBy N.view N.IsPlan N.count N.rows N.holds (node ∷ []) self.old self.new) }
         ensures err { OnErr result (IsUnchanged N.view self.old self.new) }
     {
         match self.turn(node) {
@@ -157,8 +159,10 @@ impl<N: Phased> World<N> {
         ensures at { KeepsLockstep N.view N.IsPlan N.count N.rows N.holds self.old self.new }
         ensures nodes { length self.new.nodes ≡ length self.old.nodes }
         ensures plays { OnOk result (Plays N.view turns.now self.old self.new) }
+        ensures script { OnOk result (MovesBy N.view N.IsPlan N.count N.rows N.holds turns.now self.old self.new) }
         ensures count { IfOk result (λ k. length self.new.moved ≡ length self.old.moved + k) }
-        ensures err { OnErr result (Stops N.view turns.now self.old self.new) }
+        ensures stops { OnErr result ((k : ℕ) × Stops N.view (take k turns.now) self.old self.new ×
+            MovesBy N.view N.IsPlan N.count N.rows N.holds (take k turns.now) self.old self.new) }
     {
         let before = self.moves();
         for node in turns {
@@ -175,10 +179,14 @@ impl<N: Phased> World<N> {
         ensures nodes { length self.new.nodes ≡ length self.old.nodes }
         ensures at { KeepsLockstep N.view N.IsPlan N.count N.rows N.holds self.old self.new }
         ensures plays { OnOk result (Plays N.view (nodes_below (length self.old.nodes)) self.old self.new) }
+        ensures script { OnOk result (MovesBy N.view N.IsPlan N.count N.rows N.holds
+            (nodes_below (length self.old.nodes)) self.old self.new) }
         ensures falls { IfOk result (λ k. 0 < k → total (map N.view self.new.nodes) < total (map N.view self.old.nodes)) }
         ensures ends { IfOk result (λ k. k ≡ 0 → AreDone N.view self.new.nodes) }
         ensures few { IfOk result (λ k. k ≤ 16) }
-        ensures err { OnErr result (Stops N.view (nodes_below (length self.old.nodes)) self.old self.new) }
+        ensures grows { IfOk result (λ k. length self.old.moved + k ≤ length self.new.moved) }
+        ensures stops { OnErr result ((k : ℕ) × Stops N.view (nodes_below k) self.old self.new ×
+            MovesBy N.view N.IsPlan N.count N.rows N.holds (nodes_below k) self.old self.new) }
     {
         let n = self.nodes.len() as u32;
         let mut moved = 0;
@@ -197,10 +205,13 @@ impl<N: Phased> World<N> {
         ensures at { KeepsLockstep N.view N.IsPlan N.count N.rows N.holds self.old self.new }
         ensures nodes { length self.new.nodes ≡ length self.old.nodes }
         ensures plays { OnOk result ((k : ℕ) × Plays N.view (rounds k (length self.old.nodes)) self.old self.new) }
+        ensures script { IfOk result (λ k. MovesBy N.view N.IsPlan N.count N.rows N.holds
+            (rounds (k + 1) (length self.old.nodes)) self.old self.new) }
         ensures count { IfOk result (λ k. length self.new.moved ≡ length self.old.moved + k) }
         ensures done { OnOk result (AreDone N.view self.new.nodes) }
         ensures over { OnOk result (Ends N.view N.IsPlan N.count N.rows N.holds self.old self.new) }
-        ensures err { OnErr result ((k : ℕ) × Stops N.view (rounds k (length self.old.nodes)) self.old self.new) }
+        ensures stops { OnErr result ((j k : ℕ) × Stops N.view (rounds j (length self.old.nodes) ++ nodes_below k) self.old self.new ×
+            MovesBy N.view N.IsPlan N.count N.rows N.holds (rounds j (length self.old.nodes) ++ nodes_below k) self.old self.new) }
     {
         let before = self.moves();
         'rounds: loop {
@@ -241,10 +252,12 @@ impl<N: Phased> World<N> {
         ensures at { KeepsLockstep N.view N.IsPlan N.count N.rows N.holds self.old self.new }
         ensures nodes { length self.new.nodes ≡ length self.old.nodes }
         ensures draws { OnOk result ((ps : List ℕ) × (last : ℕ) × Draws N.view seed ps self.old last self.new) }
+        ensures script { IfOk result (λ k. MovesDrawn N.view N.IsPlan N.count N.rows N.holds seed k self.old self.new) }
         ensures count { IfOk result (λ k. length self.new.moved ≡ length self.old.moved + k) }
         ensures done { OnOk result (AreDone N.view self.new.nodes) }
         ensures over { OnOk result (Ends N.view N.IsPlan N.count N.rows N.holds self.old self.new) }
-        ensures err { OnErr result ((ps : List ℕ) × (last : ℕ) × (mid : WorldState N) × Draws N.view seed ps self.old last mid × IsUnchanged N.view mid self.new) }
+        ensures stops { OnErr result ((k : ℕ) × MovesDrawn N.view N.IsPlan N.count N.rows N.holds seed k self.old self.new ×
+            (ps : List ℕ) × (last : ℕ) × (mid : WorldState N) × Draws N.view seed ps self.old last mid × IsUnchanged N.view mid self.new) }
     {
         let before = self.moves();
         let n = self.count();
