@@ -5,10 +5,12 @@
 //! is set, in the second phase all tell node 0, and there is no third.
 #![tactic(auto)]
 
+mod orders;
 mod phase;
 mod reading;
 mod runs;
 mod voter;
 
+pub use orders::moves_of_two;
 pub use runs::{finished, voters};
 pub use voter::Voter;

@@ -1,6 +1,7 @@
-ghost use Rattle.std.specs.Prelude.{◌≡◌, ◌<◌, ◌≤◌, length, IfOk};
+ghost use Rattle.std.specs.Prelude.{◌≡◌, ◌<◌, ◌≤◌, [], length, IfOk};
 ghost use Rattle.bsp_core.specs.Turns.{IsInLockstep, HasEnded};
 ghost use Rattle.bsp_example.specs.Rows.{voter_row, voter_holds};
+ghost use Rattle.bsp_example.specs.Orders.{AreRounds};
 
 use crate::Voter;
 use bsp_core::{NodeList, World};
@@ -12,6 +13,7 @@ pub fn voters(alloc: Global, flags: &[bool]) -> Result<World<Voter>, Memory>
     requires some { 0 < length flags.now }
     requires few { length flags.now ≤ 16 }
     ensures nodes { IfOk result (λ w. length w.nodes ≡ length flags.now) }
+    ensures moved { IfOk result (λ w. w.moved ≡ []) }
     ensures at { IfOk result (λ w. IsInLockstep (λ s. s) (voter_row flags.now) (voter_holds flags.now) (length flags.now) w) }
 {
     let count = flags.len() as u32;
@@ -25,11 +27,12 @@ pub fn voters(alloc: Global, flags: &[bool]) -> Result<World<Voter>, Memory>
     Ok(world)
 }
 
-/// Such a World at its end.
+/// Such a World at its end, to which turns in rounds led.
 pub fn finished(alloc: Global, flags: &[bool]) -> Result<World<Voter>, Memory>
     requires some { 0 < length flags.now }
     requires few { length flags.now ≤ 16 }
     ensures over { IfOk result (λ w. HasEnded (λ s. s) (voter_row flags.now) (voter_holds flags.now) (length flags.now) w) }
+    ensures order { IfOk result (λ w. AreRounds flags.now w.moved) }
 {
     let mut world = voters(alloc, flags)?;
     match world.round_robin() {
