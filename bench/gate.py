@@ -49,18 +49,23 @@ def place_of(number):
         return ""
 
 
+def is_rt(words):
+    return any(it.endswith("/rt") for it in words[:2])
+
+
 def kind_of(words, place):
     """The crate that a process works for, and what it does."""
     told = " ".join(words)
     named = re.search(r"--crate-name ([a-z0-9_]+)", told) or re.search(r"crates/([a-z0-9_]+)", place + " " + told)
     name = named.group(1) if named else "rt"
-    if "rt-edits-" in told:
+    # an edit is tried by a check that writes nothing, or that begins with what another kept
+    if words[1:2] == ["check"] and "-o" not in words:
         return name, "edits"
     if "--test" in words:
         return name, "tests"
-    if len(words) > 1 and words[1] in ("build", "check") and "rattle" in words[0]:
+    if words[1:2] in (["build"], ["check"]) and words[0].endswith("/rattle"):
         return name, "proof"
-    return name, "runs" if named else "proof"
+    return name, "runs"
 
 
 def watch(run):
@@ -70,13 +75,16 @@ def watch(run):
         for number, (parent, began, ticks) in processes().items():
             if parent == run.pid:
                 key = (number, began)
-                kept = seen.get(key)
-                kind = kept[0] if kept else kind_of(words_of(number), place_of(number))
-                seen[key] = (kind, max(ticks, kept[1] if kept else 0))
+                kept = seen.get(key, ((), 0))
+                # a process that has only just begun still has the words of rt itself
+                words = words_of(number)
+                kind = kept[0] if not words or kept[0] and is_rt(words) else kind_of(words, place_of(number))
+                seen[key] = (kind, max(ticks, kept[1]))
         time.sleep(EACH)
     sums = {}
-    for (name, kind), ticks in seen.values():
-        sums[name, kind] = sums.get((name, kind), 0) + ticks / TICKS
+    for kind, ticks in seen.values():
+        if kind:
+            sums[kind] = sums.get(kind, 0) + ticks / TICKS
     return sums
 
 
