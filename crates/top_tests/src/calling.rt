@@ -20,11 +20,6 @@ pub(crate) fn words_of(alloc: Global, text: &str) -> Result<Vec<String>, AllocEr
     Ok(words)
 }
 
-/// Whether words ask for turns in an order of their own, or for one machine.
-pub(crate) fn is_for_turns(words: &str) -> bool {
-    words.contains("--turns") || words.contains("--plain")
-}
-
 pub(crate) fn bytes_of(alloc: Global, text: &str) -> Result<Bytes, Memory> {
     let mut bytes = Bytes::new(alloc);
     bytes.append(text.as_bytes())?;
@@ -91,7 +86,7 @@ pub(crate) fn sink(alloc: Global, write_fails: Option<i64>) -> Result<MemorySink
     MemorySink::new(alloc, 65536, 5, only(alloc, write_fails)?)
 }
 
-/// What comes of words and files by turns, and the number of turns, where it is named.
+/// What comes of words and files by turns.
 pub(crate) fn comes(
     rt: &impl Abort,
     alloc: Global,
@@ -100,16 +95,12 @@ pub(crate) fn comes(
     mut out: MemorySink,
     status: u8,
     written: &str,
-    moves: Option<u64>,
 ) -> Result<(), Fail> {
     let words = words_of(alloc, text)?;
     let mut played = Played::new(alloc);
     let ended = play_program(alloc, words.as_slice(), &mut files, &mut out, &mut played);
     assert_eq!(rt; ended, status);
     assert_eq!(rt; out.written(), written.as_bytes());
-    if let Some(moves) = moves {
-        assert_eq!(rt; played.moved.len(), moves);
-    }
     Ok(())
 }
 

@@ -1,13 +1,13 @@
-//! The nodes of a program, in turns of one's own and with a letter that isn't wanted.
-ghost use Rattle.std.specs.Prelude.{◌≡◌, ◌<◌, ◌≤◌, length, Ok, IfOk};
+//! A node that is given a letter that it doesn't want.
+ghost use Rattle.std.specs.Prelude.{◌≡◌, ◌<◌, ◌≤◌, Ok, IfOk};
 ghost use Rattle.chaos_engine.specs.Runs.{IsAdmitted};
 ghost use Rattle.fd_program.specs.Checks.{IsChecked};
 ghost use Rattle.fd_trace.specs.Way.{IsUnrolled};
 
 use crate::calling::files_of;
-use crate::programs::ADDS;
-use bsp_core::{Phased, TakeFault, Turned, Want, World};
-use chaos_engine::{split, world_of};
+use crate::programs::{ADDED, ADDS};
+use bsp_core::{Phased, TakeFault, Want};
+use chaos_engine::split;
 use chaos_holdings::Session;
 use chaos_letter::{Kind, Letter};
 use chaos_node::Node;
@@ -28,7 +28,7 @@ fn session_of(alloc: Global, source: Source, nodes: u32) -> Result<(Session, Sto
     ensures admitted { IfOk result (λ p. IsAdmitted p.0 p.1) }
     ensures nodes { IfOk result (λ p. p.0.nodes ≡ nodes) }
 {
-    let mut files = files_of(alloc, "", "x.csv 10/20/30/40, ia.csv 2/2/4/1", None)?;
+    let mut files = files_of(alloc, "", ADDED, None)?;
     match load(alloc, &mut files, &source.checked) {
         Ok(store) => {
             let Source { checked, trace, .. } = source;
@@ -45,7 +45,7 @@ fn session_of(alloc: Global, source: Source, nodes: u32) -> Result<(Session, Sto
 }
 
 /// The program that adds, on so many nodes.
-pub(crate) fn adding(alloc: Global, nodes: u32) -> Result<(Session, Store), Memory>
+fn adding(alloc: Global, nodes: u32) -> Result<(Session, Store), Memory>
     requires some { 0 < nodes }
     requires few { nodes ≤ 16 }
     ensures admitted { IfOk result (λ p. IsAdmitted p.0 p.1) }
@@ -55,92 +55,6 @@ pub(crate) fn adding(alloc: Global, nodes: u32) -> Result<(Session, Store), Memo
         Ok(source) => session_of(alloc, source, nodes),
         Err(_) => Err(Memory),
     }
-}
-
-/// Turns of two nodes, each by itself.
-fn take_turns(rt: &impl Abort, world: &mut World<Node<'_>>) -> Result<(), Fail>
-    requires { length world.old.nodes ≡ 2 }
-{
-    assert_eq!(rt; world.turn(0)?, Turned::Moved);
-    assert_eq!(rt; world.turn(0)?, Turned::NotReady);
-    assert_eq!(rt; world.turn(1)?, Turned::Moved);
-    assert_eq!(rt; world.turn(0)?, Turned::Moved);
-    assert_eq!(rt; world.turn(0)?, Turned::Moved);
-    Ok(())
-}
-
-/// Turns until all nodes are done: so many moves.
-fn play_out(rt: &impl Abort, world: &mut World<Node<'_>>, moves: u64) -> Result<(), Fail>
-    requires { 0 < length world.old.nodes }
-{
-    assert_eq!(rt; world.round_robin()?, moves);
-    assert_eq!(rt; world.turn(0)?, Turned::Done);
-    Ok(())
-}
-
-fn turn_by_turn(
-    rt: &impl Abort,
-    alloc: Global,
-    session: &Session,
-    store: &Store,
-) -> Result<(), Fail>
-    requires admitted { IsAdmitted session.now store.now }
-    requires two { session.now.nodes ≡ 2 }
-{
-    let mut world = world_of(alloc, session, store)?;
-    take_turns(rt, &mut world)
-}
-
-/// Of five turns one finds no letter yet.
-fn by_a_list(rt: &impl Abort, alloc: Global, session: &Session, store: &Store) -> Result<(), Fail>
-    requires admitted { IsAdmitted session.now store.now }
-    requires two { session.now.nodes ≡ 2 }
-{
-    let mut world = world_of(alloc, session, store)?;
-    let moved = world.play([0, 0, 1, 0, 0].as_slice())?;
-    assert_eq!(rt; moved, 4);
-    Ok(())
-}
-
-fn one_after_another(
-    rt: &impl Abort,
-    alloc: Global,
-    session: &Session,
-    store: &Store,
-    moves: u64,
-) -> Result<(), Fail>
-    requires { IsAdmitted session.now store.now }
-{
-    let mut world = world_of(alloc, session, store)?;
-    play_out(rt, &mut world, moves)
-}
-
-fn on_fresh_worlds(
-    rt: &impl Abort,
-    alloc: Global,
-    session: &Session,
-    store: &Store,
-) -> Result<(), Fail>
-    requires admitted { IsAdmitted session.now store.now }
-    requires two { session.now.nodes ≡ 2 }
-{
-    turn_by_turn(rt, alloc, session, store)?;
-    by_a_list(rt, alloc, session, store)?;
-    one_after_another(rt, alloc, session, store, 46)
-}
-
-/// Two nodes in turns, in orders of one's own and one after another.
-#[test]
-fn turns_of_two(rt: HostRuntime) -> Result<(), Fail> {
-    let (session, store) = adding(rt.alloc(), 2)?;
-    on_fresh_worlds(&rt, rt.alloc(), &session, &store)
-}
-
-/// One node alone sends no letter.
-#[test]
-fn turns_of_one(rt: HostRuntime) -> Result<(), Fail> {
-    let (session, store) = adding(rt.alloc(), 1)?;
-    one_after_another(&rt, rt.alloc(), &session, &store, 8)
 }
 
 /// The parts of node 0.

@@ -1,28 +1,13 @@
-//! Runs by threads: a gate that holds nodes for each other, and a node that is driven alone.
-ghost use Rattle.std.specs.Prelude.{◌≡◌, IfOk};
-ghost use Rattle.bsp_mail.specs.Mails.{IsFresh};
-ghost use Rattle.bsp_mail.specs.Seats.{IsOpenOn};
-ghost use Rattle.bsp_threads.specs.Seats.{IsReady};
-ghost use Rattle.bsp_threads.specs.declared.seat.Standing.TheVariants.{Going};
-ghost use Rattle.chaos_engine.specs.Runs.{IsAdmitted};
+//! Runs by threads: with a gate that holds nodes for each other, and many times in a row.
 
-use crate::calling::{files_of, repeated, sink, words_of};
-use crate::nodes::adding;
-use bsp_mail::{Mail, MailSeat, Queues};
-use bsp_threads::{DriveSeat, Drove, drive};
-use chaos_engine::world_of;
-use chaos_holdings::Session;
-use chaos_node::Node;
-use fd_outside::{Gate, OpenGate};
-use fd_program::Store;
+use crate::calling::{comes_by_threads, files_of, repeated, sink, words_of};
+use crate::programs::{CUBE, SWEEP, SWEPT};
+use bsp_mail::Mail;
+use fd_outside::Gate;
 use fd_top::run_program;
-use fd_words::Memory;
-use std::alloc::Global;
-use std::process::Abort;
-use std::sync::Wait;
 use std::sync::atomic::{AtomicBool, AtomicU64, Ordering};
 use std::test::Fail;
-use std::{mem, thread};
+use std::thread;
 
 /// Shows one array of zeros a hundred times: nodes 1 and 2 send their elements, and never take a letter.
 const PRINTS: &str = "PROGRAM G\nINTEGER*8 Y(4)\nOUTPUT Y\nDO K = 1, 99\nPRINT Y\nEND DO\nEND\n";
@@ -117,64 +102,13 @@ fn two_nodes_work_at_once(rt: HostRuntime) -> Result<(), Fail> {
     Ok(())
 }
 
-/// The first two seats of a Mail.
-fn two_seats(alloc: Global, mail: &mut Mail) -> (MailSeat, MailSeat)
-    requires { IsFresh mail.old.queues mail.old.seats.items }
-    ensures queues { mail.new.queues ≡ mail.old.queues }
-    ensures first { (result.0.me ≡ 0) × IsOpenOn mail.old.queues result.0 }
-    ensures second { (result.1.me ≡ 1) × IsOpenOn mail.old.queues result.1 }
-{
-    let first = mem::replace(&mut mail.seats[0], MailSeat::away(alloc));
-    let second = mem::replace(&mut mail.seats[1], MailSeat::away(alloc));
-    (first, second)
-}
-
-/// The first node of a session.
-fn first_node<'a>(alloc: Global, session: &'a Session, store: &Store) -> Result<Node<'a>, Memory>
-    requires { IsAdmitted session.now store.now }
-    ensures { IfOk result (λ node. node.face.me ≡ 0) }
-{
-    let (nodes, _) = world_of(alloc, session, store)?.into_parts();
-    let mut nodes = nodes.into_vec();
-    Ok(nodes.swap_remove(0))
-}
-
-/// Node 0 sends one letter to node 1, and then waits for one that doesn't come.
-fn waits<R: Wait + Abort>(
-    rt: &R,
-    queues: &Queues,
-    seat: &mut DriveSeat<Node<'_>>,
-    other: &mut MailSeat,
-)
-    requires seat { IsReady (λ v. v) queues.now seat.old × (seat.old.standing ≡ Going) × (seat.old.mail.me ≡ 0) }
-    requires other { IsOpenOn queues.now other.old × (other.old.me ≡ 1) }
-{
-    let answer = drive(rt, seat, queues, &OpenGate);
-    assert!(rt; matches!(answer, Ok(Drove::Waiting)));
-    assert!(rt; other.take_from(rt, queues, 0).is_some());
-    assert!(rt; other.take_from(rt, queues, 0).is_none());
-    assert!(rt; seat.mail.take_from(rt, queues, 1).is_none());
-}
-
-fn drive_first<R: Wait + Abort>(
-    rt: &R,
-    alloc: Global,
-    session: &Session,
-    store: &Store,
-) -> Result<(), Fail>
-    requires { IsAdmitted session.now store.now }
-{
-    let mut mail = Mail::new(alloc)?;
-    let node = first_node(alloc, session, store)?;
-    let (first, mut second) = two_seats(alloc, &mut mail);
-    let mut seat = DriveSeat::new(node, first);
-    waits(rt, &mail.queues, &mut seat, &mut second);
-    Ok(())
-}
-
-/// A node that is driven alone waits for letters.
+/// Sweeps by threads on more nodes than processors, twenty times in a row: one text.
 #[test]
-fn a_node_alone_waits(rt: HostRuntime) -> Result<(), Fail> {
-    let (session, store) = adding(rt.alloc(), 2)?;
-    drive_first(&rt, rt.alloc(), &session, &store)
+fn sweeps_in_a_row(rt: HostRuntime) -> Result<(), Fail> {
+    for _ in 0..20 {
+        let files = files_of(rt.alloc(), SWEEP, CUBE, None)?;
+        let out = sink(rt.alloc(), None)?;
+        comes_by_threads(&rt, rt.alloc(), "a.fd --nodes 16", files, out, 0, SWEPT)?;
+    }
+    Ok(())
 }
