@@ -1,0 +1,12 @@
+pub mod Bisection
+pub mod Keys
+pub mod Counts
+pub mod Search
+pub mod KeyLaws
+pub mod Told
+pub mod Sizes
+pub mod Depth
+pub mod Regions
+pub mod Cover
+pub mod Shares
+pub mod Worked
