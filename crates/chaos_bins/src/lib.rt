@@ -1,0 +1,8 @@
+//! Particles that move between bins, and what nodes hand on to each other of them: definitions and laws.
+#![tactic(auto)]
+
+pub mod laws;
+mod stepping;
+pub mod worked;
+
+pub use stepping::step;
