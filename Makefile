@@ -1,18 +1,49 @@
-.PHONY: demo examples bench test
+# `make help` lists the targets.
+PREFIX ?= /usr/local
+PLAY = crates/chaosplay/out/chaosplay
+RUN = crates/chaosrun/out/chaosrun
+.DEFAULT_GOAL := help
+.PHONY: help demo programs install examples bench chart test
 
-# proves and builds both programs, and runs the first example on two nodes, in turns and on threads
-demo:
-	cd crates/chaosplay && rt run -- ../../examples/first.fd --nodes 2
-	cd crates/chaosrun && rt run -- ../../examples/first.fd --nodes 2
+# $(call needs,TOOL,WHAT FOR): ends with one line where the tool is missing
+needs = @command -v $(1) >/dev/null 2>&1 || { echo "$(1) is missing: $(2)" >&2; exit 1; }
+rt = $(call needs,rt,it is the command of the Rattle kit, which proves and builds everything here)
+python = $(call needs,python3,the scripts of this target are written in it)
+stand = @[ -x $(PLAY) ] && [ -x $(RUN) ] || { echo "The programs don't stand yet: make programs proves and builds them" >&2; exit 1; }
 
-# runs each example in its folder and compares what it writes
-examples: demo
-	examples/run.sh
+help: ## this list
+	@sed -n 's/^\([a-z]*\):.*## /  make \1 - /p' Makefile
 
-# makes large inputs, runs the proved programs on them and prints seconds and peak memory
-bench: demo
-	bench/run.sh
+demo: ## builds both programs unproved and runs two examples: two minutes to the first text, four in all
+	$(rt)
+	@tools/demo.sh
 
-# what the gate does
-test:
-	.ci/run
+programs: ## proves and builds both programs (about 60 processor minutes), and tells where they stand
+	$(rt)
+	$(python)
+	@tools/programs.py
+
+install: ## puts the programs that stand and their manual page into PREFIX=/usr/local
+	$(stand)
+	@mkdir -p "$(DESTDIR)$(PREFIX)/bin" "$(DESTDIR)$(PREFIX)/share/man/man1"
+	install -m 755 $(PLAY) $(RUN) "$(DESTDIR)$(PREFIX)/bin"
+	install -m 644 docs/chaosrun.1 docs/chaosplay.1 "$(DESTDIR)$(PREFIX)/share/man/man1"
+
+examples: ## runs every example, every program and command of the pages, and every message, and compares what they write
+	$(python)
+	$(stand)
+	@examples/run.py
+	@docs/run.py
+
+bench: ## times the programs that stand on large inputs, beside a Fortran program, and compares every text
+	$(python)
+	$(stand)
+	@bench/run.py
+
+chart: ## draws docs/speed.svg from the last make bench
+	$(python)
+	@bench/chart.py
+
+test: ## the gate: every proof, must-fail edit, test and program (bench/gate.py tells what it costs)
+	$(rt)
+	@.ci/run
