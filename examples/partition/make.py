@@ -15,8 +15,8 @@ def write(name, numbers):
 
 
 write("x", [point * point % 7 for point in points])
-# first four points in a row of the numbering to each node, then a quarter of the grid
-write("m", [(point - 1) // SIDE for point in points])
+# first the points dealt out one by one, then a quarter of the grid to each node
+write("m", [point % SIDE for point in points])
 write("better", [place[point][0] // 2 * 2 + place[point][1] // 2 for point in points])
 write("a", [it[0] for it in edges])
 write("b", [it[1] for it in edges])
