@@ -37,7 +37,7 @@ def mesh(points, edges, turns, name):
         f"DO K = 1, {turns}\nFORALL I = 1, NE\n"
         "REDUCE(ADD, F(E1(I)), X(E2(I)) - X(E1(I)))\nREDUCE(ADD, F(E2(I)), X(E1(I)) - X(E2(I)))\nEND FORALL\n"
         "FORALL I = 1, NP\nX(I) = X(I) + F(I)\nF(I) = 0\nEND FORALL\nEND DO\n"
-        "FORALL I = 1, NP\nREDUCE(ADD, S(1), X(I))\nEND FORALL\nEND\n"
+        "FORALL I = 1, NP\nREDUCE(ADD, S(1), X(I)*I)\nEND FORALL\nEND\n"
     )
     numbers = lambda f, n: "".join(f"{f(j)}\n" for j in range(1, n + 1))
     (folder_of / "x.csv").write_text(numbers(lambda j: j, points))
@@ -45,9 +45,9 @@ def mesh(points, edges, turns, name):
     (folder_of / "e2.csv").write_text(numbers(lambda j: (j * j + 7) % points + 1, edges))
 
 
-for turns in (4, 40):
-    mesh(100_000, 200_000, turns, f"sweep-{turns}")
-    mesh(50_000, 100_000, turns, f"half-{turns}")
+for points in (1_000, 25_000, 50_000, 100_000):
+    for turns in (0, 1, 21):
+        mesh(points, 2 * points, turns, f"sweep-{points}-{turns}")
 
 # many executions of a loop over one element of a large array
 (folder / "small.fd").write_text(
