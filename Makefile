@@ -7,7 +7,7 @@ RUN = crates/chaosrun/out/chaosrun
 
 # $(call needs,TOOL,WHAT FOR): ends with one line where the tool is missing
 needs = @command -v $(1) >/dev/null 2>&1 || { echo "$(1) is missing: $(2)" >&2; exit 1; }
-rt = $(call needs,rt,it is the command of the Rattle kit, which proves and builds everything here)
+rt = $(call needs,rt,the command of the Rattle kit that proves and builds everything here)
 python = $(call needs,python3,the scripts of this target are written in it)
 stand = @[ -x $(PLAY) ] && [ -x $(RUN) ] || { echo "The programs don't stand yet: make programs proves and builds them" >&2; exit 1; }
 

@@ -1,5 +1,5 @@
 #!/usr/bin/env python3
-"""Runs what the pages show, and compares: every command of a console block, and every row of the table of messages.
+"""Runs what the pages show, and compares: every command of a console block, and every row of the table of messages; follows all links to files.
 
   docs/run.py [PAGE ..]      all pages, or those that are named
 
@@ -64,8 +64,25 @@ def rows(page, room, paths):
     return many, wrong
 
 
+def lost(name, page):
+    """Links of a page to files that aren't there."""
+    found = [it.partition("#")[0] for it in re.findall(r"\]\(([^)\s]+)\)", page)]
+    return [it for it in found if it and not os.path.exists(os.path.join(TOP, os.path.dirname(name), it))]
+
+
+def linked():
+    """How many links of all pages lead nowhere."""
+    wrong = 0
+    for name in subprocess.run(["git", "ls-files", "*.md"], cwd=TOP, stdout=subprocess.PIPE, text=True).stdout.split():
+        with open(f"{TOP}/{name}", encoding="utf-8") as told:
+            for it in lost(name, told.read()):
+                wrong += 1
+                print(f"{name}: a link to {it}, which isn't there")
+    return wrong
+
+
 def main(names):
-    failed = 0
+    failed = 0 if names else linked()
     for name in names or PAGES:
         with open(f"{TOP}/{name}", encoding="utf-8") as told, tempfile.TemporaryDirectory() as place:
             page = told.read()

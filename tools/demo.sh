@@ -31,9 +31,9 @@ show() {
 	}
 }
 
-case_of chaosplay "examples/first on two nodes, in turns" first.fd --nodes 2
-case_of chaosplay "examples/sweep on four nodes, in turns, with its report" sweep.fd --nodes 4 --report
-case_of chaosrun "examples/sweep on four nodes, by threads" sweep.fd --nodes 4 --report
+case_of chaosplay "first.fd on two nodes, in turns" first.fd --nodes 2
+case_of chaosplay "sweep.fd on four nodes, in turns, with its report" sweep.fd --nodes 4 --report
+case_of chaosrun "sweep.fd on four nodes, by threads, with its report" sweep.fd --nodes 4 --report
 echo "Building chaosplay without proofs, to be seen running: about two minutes."
 later=
 if [ "$(getconf _NPROCESSORS_ONLN)" -ge 4 ]; then
