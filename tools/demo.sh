@@ -36,7 +36,7 @@ case_of chaosplay "sweep.fd on four nodes, in turns, with its report" sweep.fd -
 case_of chaosrun "sweep.fd on four nodes, by threads, with its report" sweep.fd --nodes 4 --report
 echo "Building chaosplay without proofs, to be seen running: about two minutes."
 later=
-if [ "$(getconf _NPROCESSORS_ONLN)" -ge 4 ]; then
+if [ "$(nproc)" -ge 4 ]; then
 	(show chaosrun) >"$work/later" &
 	later=$!
 fi
