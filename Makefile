@@ -16,12 +16,12 @@ help: ## this list
 
 demo: ## builds both programs unproved and runs two examples: two minutes to the first text, four in all
 	$(rt)
-	@tools/demo.sh
+	@examples/demo.sh
 
 programs: ## proves and builds both programs (about 60 processor minutes), and tells where they stand
 	$(rt)
 	$(python)
-	@tools/programs.py
+	@bench/programs.py
 
 install: ## puts the programs that stand and their manual page into PREFIX=/usr/local
 	$(stand)
