@@ -4,8 +4,8 @@
   bench/run.py           all cases; the rows are kept in bench/out/rows.tsv, for bench/chart.py
   bench/run.py --quick   the sweeps of a mesh of 1000 points alone
 
-A row has seconds, peak memory and status of one run. Of a sweep it has three runs, of 0, 1 and 21 steps: seconds a step are the
-21 less the 1, by 20; seconds of inspection are the 1 less the 0, less one step. Every text is compared with that of `--plain`.
+A row has seconds, peak memory and status of one run. Of a sweep it has runs of 0, 1 and 21 steps, the fastest of three each: seconds a
+step are the 21 less the 1, by 20; seconds of inspection are the 1 less the 0, less one step. Every text is compared with that of `--plain`.
 CHAOSPLAY and CHAOSRUN name other programs than those that stand.
 """
 import os
@@ -55,9 +55,11 @@ class Bench:
         seconds, peak = [], 0
         for steps in STEPS:
             folder = f"{self.work}/sweep-{points}-{steps}"
-            took, more, _, text = measured(command(steps), folder)
-            seconds.append(took)
-            peak = max(peak, more)
+            # the least of three: what differs between runs of many threads is more than a step
+            runs = [measured(command(steps), folder) for _ in range(3)]
+            seconds.append(min(it[0] for it in runs))
+            peak = max(peak, *(it[1] for it in runs))
+            text = runs[0][3]
             if folder not in self.plain:
                 self.plain[folder] = measured([PLAY, "sweep.fd", "--plain"], folder)[3]
             self.compare(f"{name}, {steps} steps", text, self.plain[folder])
