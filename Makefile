@@ -2,6 +2,8 @@
 PREFIX ?= /usr/local
 PLAY = crates/chaosplay/out/chaosplay
 RUN = crates/chaosrun/out/chaosrun
+BISECT = crates/chaosbisect/out/chaosbisect
+APPEND = crates/chaosappend/out/chaosappend
 .DEFAULT_GOAL := help
 .PHONY: help demo programs install examples bench chart test
 
@@ -9,25 +11,25 @@ RUN = crates/chaosrun/out/chaosrun
 needs = @command -v $(1) >/dev/null 2>&1 || { echo "$(1) is missing: $(2)" >&2; exit 1; }
 rt = $(call needs,rt,the command of the Rattle kit that proves and builds everything here)
 python = $(call needs,python3,the scripts of this target are written in it)
-stand = @[ -x $(PLAY) ] && [ -x $(RUN) ] || { echo "The programs don't stand yet: make programs proves and builds them" >&2; exit 1; }
+stand = @[ -x $(PLAY) ] && [ -x $(RUN) ] && [ -x $(BISECT) ] && [ -x $(APPEND) ] || { echo "The programs don't stand yet: make programs proves and builds them" >&2; exit 1; }
 
 help: ## this list
 	@sed -n 's/^\([a-z]*\):.*## /  make \1 - /p' Makefile
 
-demo: ## builds both programs unproved and runs two examples: two minutes to the first text, four in all
+demo: ## builds the programs unproved and runs examples: two minutes to the first text, six in all
 	$(rt)
 	@examples/demo.sh
 
-programs: ## proves and builds both programs (about 60 processor minutes), and tells where they stand
+programs: ## proves and builds all programs (about 60 processor minutes), and tells where they stand
 	$(rt)
 	$(python)
 	@bench/programs.py
 
-install: ## puts the programs that stand and their manual page into PREFIX=/usr/local
+install: ## puts the programs that stand and their manual pages into PREFIX=/usr/local
 	$(stand)
 	@mkdir -p "$(DESTDIR)$(PREFIX)/bin" "$(DESTDIR)$(PREFIX)/share/man/man1"
-	install -m 755 $(PLAY) $(RUN) "$(DESTDIR)$(PREFIX)/bin"
-	install -m 644 docs/chaosrun.1 docs/chaosplay.1 "$(DESTDIR)$(PREFIX)/share/man/man1"
+	install -m 755 $(PLAY) $(RUN) $(BISECT) $(APPEND) "$(DESTDIR)$(PREFIX)/bin"
+	install -m 644 docs/chaosrun.1 docs/chaosplay.1 docs/chaosbisect.1 docs/chaosappend.1 "$(DESTDIR)$(PREFIX)/share/man/man1"
 
 examples: ## runs every example, every program and command of the pages, and every message, and compares what they write
 	$(python)

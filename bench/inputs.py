@@ -53,3 +53,12 @@ for points in (1_000, 25_000, 50_000, 100_000):
 (folder / "small.fd").write_text(
     "PROGRAM SMALL\nINTEGER*8 X(1000000), Y(1)\nOUTPUT Y\nDO K = 1, 5000\nFORALL I = 1, 1\nX(I) = K\nEND FORALL\nEND DO\nEND\n"
 )
+
+# elements in space
+for name, factor in ("across", 2654435761), ("down", 40503), ("deep", 97):
+    write(f"{name}.csv", "".join(f"{i * factor % 1000003 * (i % 7 + 1)}\n" for i in range(count)))
+
+# particles in bins, and half as many
+for name, many in ("", count), ("half-", count // 2):
+    write(f"{name}bins.csv", "".join(f"{i * 40503 % 4096 + 1}\n" for i in range(many)))
+    write(f"{name}values.csv", "".join(f"{i * 2654435761 % 8191 - 4095}\n" for i in range(many)))

@@ -1,5 +1,5 @@
 #!/usr/bin/env python3
-"""Proves and builds both programs and puts them into their crates' out/; does nothing where they stand already.
+"""Proves and builds all programs and puts them into their crates' out/; does nothing where they stand already.
 
 The crates below the programs are copied to a folder of their own, without must-fail edits and crates of tests, and `rt ci`
 proves that. It keeps what it proves by checksum, as the gate does, so neither proves again what the other has proved.
@@ -10,7 +10,7 @@ import subprocess
 import sys
 import tempfile
 
-PROGRAMS = ["chaosplay", "chaosrun"]
+PROGRAMS = ["chaosplay", "chaosrun", "chaosbisect", "chaosappend"]
 READ = ["src", "specs", "proofs"]
 ROOT = os.path.dirname(os.path.dirname(os.path.abspath(__file__)))
 MINUTES = "about 60 processor minutes (35 minutes on two processors, 20 on four), less where crates of this text were proved before"

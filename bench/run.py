@@ -6,7 +6,7 @@
 
 A row has seconds, peak memory and status of one run. Of a sweep it has runs of 0, 1 and 21 steps, the fastest of three each: seconds a
 step are the 21 less the 1, by 20; seconds of inspection are the 1 less the 0, less one step. Every text is compared with that of `--plain`.
-CHAOSPLAY and CHAOSRUN name other programs than those that stand.
+CHAOSPLAY, CHAOSRUN and so on name other programs than those that stand.
 """
 import os
 import shutil
@@ -18,6 +18,8 @@ import time
 HERE = os.path.dirname(os.path.abspath(__file__))
 PLAY = os.path.abspath(os.environ.get("CHAOSPLAY", f"{HERE}/../crates/chaosplay/out/chaosplay"))
 RUN = os.path.abspath(os.environ.get("CHAOSRUN", f"{HERE}/../crates/chaosrun/out/chaosrun"))
+BISECT = os.path.abspath(os.environ.get("CHAOSBISECT", f"{HERE}/../crates/chaosbisect/out/chaosbisect"))
+APPEND = os.path.abspath(os.environ.get("CHAOSAPPEND", f"{HERE}/../crates/chaosappend/out/chaosappend"))
 NODES = ["1", "2", "4", "8", "16"]
 STEPS = [0, 1, 21]
 
@@ -91,6 +93,22 @@ class Bench:
                 self.one(f"{name}, {nodes} nodes in turns", [PLAY, *words, "--nodes", nodes], ".", plain)
                 self.one(f"{name}, {nodes} nodes by threads", [RUN, *words, "--nodes", nodes], ".", plain)
 
+    def bisections(self):
+        """A million elements along three axes into 64 parts."""
+        words = ["64", "1048576"]
+        files = ["across.csv", "down.csv", "deep.csv"]
+        wanted = self.one("1048576 elements, 64 parts, 1 node", [BISECT, *words, "1", *files], ".")
+        for nodes in "4", "16":
+            self.one(f"1048576 elements, 64 parts, {nodes} nodes", [BISECT, *words, nodes, *files], ".", wanted)
+
+    def particles(self):
+        """Particles on 4 nodes: at the full size, and at half the particles and half the steps; and the full size on 1 and 16 nodes."""
+        wanted = self.one("1048576 particles, 100 steps, 1 node", [APPEND, "4096", "100", "1048576", "1", "bins.csv", "values.csv"], ".")
+        for nodes in "4", "16":
+            self.one(f"1048576 particles, 100 steps, {nodes} nodes", [APPEND, "4096", "100", "1048576", nodes, "bins.csv", "values.csv"], ".", wanted)
+        self.one("1048576 particles, 50 steps, 4 nodes", [APPEND, "4096", "50", "1048576", "4", "bins.csv", "values.csv"], ".")
+        self.one("524288 particles, 100 steps, 4 nodes", [APPEND, "4096", "100", "524288", "4", "half-bins.csv", "half-values.csv"], ".")
+
 
 def compiled(work):
     """The Fortran program, where there is a compiler."""
@@ -110,6 +128,8 @@ def main(words):
         if not words:
             print()
             bench.others()
+            bench.bisections()
+            bench.particles()
     os.makedirs(f"{HERE}/out", exist_ok=True)
     with open(f"{HERE}/out/rows.tsv", "w", encoding="utf-8") as out:
         out.writelines("\t".join(it) + "\n" for it in bench.rows)

@@ -4,8 +4,8 @@
   docs/run.py [PAGE ..]      all pages, or those that are named
 
 In a page a block ```fortran NAME.fd is a file, and a block ```console has commands behind `$ `, each with all that it writes below it. The
-commands of a page run one after another by sh in a folder of its own with the page's files; CHAOSPLAY and CHAOSRUN name other programs
-than those that stand. In MESSAGES.md each row `| written | command | status | .. |` runs in a copy of docs/messages.
+commands of a page run one after another by sh in a folder of its own with the page's files; CHAOSPLAY, CHAOSRUN and so on name
+other programs than those that stand. In MESSAGES.md each row `| written | command | status | .. |` runs in a copy of docs/messages.
 """
 import os
 import re
@@ -21,8 +21,8 @@ ROW = re.compile(r"^\| (?:`(.*?)`|nothing) \| `(.*?)` \| (\d+) \|", re.M)
 
 
 def programs(room):
-    """A folder with both programs, for the commands' path."""
-    for name in "chaosplay", "chaosrun":
+    """A folder with all programs, for the commands' path."""
+    for name in "chaosplay", "chaosrun", "chaosbisect", "chaosappend":
         made = os.environ.get(name.upper(), f"{TOP}/crates/{name}/out/{name}")
         os.symlink(os.path.abspath(made), f"{room}/{name}")
     return {**os.environ, "PATH": f"{room}{os.pathsep}{os.environ['PATH']}"}

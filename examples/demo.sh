@@ -16,36 +16,44 @@ case_of() {
 	printf '%s\n' "$@" >"$file"
 }
 
-# builds a program and runs its cases; what it says beside their texts comes out only where it fails
+# show PROGRAM FILE..: builds a program and runs its cases with these files of examples; what it says beside their texts comes out only
+# where it fails
 show() {
-	cd "crates/$1" || exit 1
-	set -- "$1" --data first.fd="$examples/first/first.fd" --data sweep.fd="$examples/sweep/sweep.fd"
-	for file in x m e1 e2; do
-		set -- "$@" --data "$file.csv=$examples/sweep/$file.csv"
-	done
 	name=$1
 	shift
+	for file; do
+		set -- "$@" --data "${file##*/}=$examples/$file"
+		shift
+	done
+	cd "crates/$name" || exit 1
 	rt try --cases "$work/$name" "$@" 2>"$work/$name.said" || {
 		cat "$work/$name.said" >&2
 		exit 1
 	}
 }
 
+sweeps="first/first.fd sweep/sweep.fd sweep/x.csv sweep/m.csv sweep/e1.csv sweep/e2.csv"
 case_of chaosplay "first.fd on two nodes, in turns" first.fd --nodes 2
 case_of chaosplay "sweep.fd on four nodes, in turns, with its report" sweep.fd --nodes 4 --report
 case_of chaosrun "sweep.fd on four nodes, by threads, with its report" sweep.fd --nodes 4 --report
+case_of chaosbisect "the eight points of sweep.fd in four parts by their values, on two nodes by threads" 4 8 2 x.csv
+case_of chaosappend "particles on a ring of twelve cells, on four nodes by threads" 12 25 30 4 cells.csv velocities.csv
 echo "Building chaosplay without proofs, to be seen running: about two minutes."
 later=
 if [ "$(nproc)" -ge 4 ]; then
-	(show chaosrun) >"$work/later" &
+	(show chaosrun $sweeps) >"$work/later" &
 	later=$!
 fi
-(show chaosplay) || exit 1
+(show chaosplay $sweeps) || exit 1
 echo "Building chaosrun likewise."
 if [ "$later" ]; then
 	wait "$later" || exit 1
 	cat "$work/later"
 else
-	(show chaosrun) || exit 1
+	(show chaosrun $sweeps) || exit 1
 fi
-echo "What ran here isn't proved yet: make programs proves both programs and builds them."
+echo "Building chaosbisect likewise."
+(show chaosbisect sweep/x.csv) || exit 1
+echo "Building chaosappend likewise."
+(show chaosappend cells/cells.csv cells/velocities.csv) || exit 1
+echo "What ran here isn't proved yet: make programs proves all programs and builds them."

@@ -6,7 +6,8 @@ use Rattle.chaos_letter.specs.declared.wanted.Wanted.{Wanted}
 use Rattle.bsp_core.specs.declared.phased.Want.TheVariants.{Send, Take, Work, Done}
 use Rattle.bsp_core.specs.Views.{Face, next_of, next_with, Below, Ascends, nodes_in}
 
-next_with_below : (me count left : ℕ) (due : List (ℕ × Wanted)) (out : List (ℕ × Letter)) → Ascends me count 0 (nodes_in out) → Ascends me count 0 (nodes_in due) →
+next_with_below : (me count left : ℕ) (due : List (ℕ × Wanted)) (out : List (ℕ × Letter)) → Ascends me count 0 (nodes_in out)
+    → Ascends me count 0 (nodes_in due) →
     Below (next_with left due out) count
 next_with_below me count left due (x ∷ xs) o d = o.1
 next_with_below me count left (x ∷ xs) [] o d = d.1
@@ -17,7 +18,8 @@ pub next_below : (v : Face) → Ascends v.me v.count 0 (nodes_in v.out) → Asce
 next_below v o d = next_with_below v.me v.count v.left v.due v.out o d
 
 -- what an action that is due says of the view
-next_with_send : (left : ℕ) (due : List (ℕ × Wanted)) (out : List (ℕ × Letter)) (to : ℕ) → next_with left due out ≡ Send to → (x : Letter) × (rest : List (ℕ × Letter)) × (out ≡ (to, x) ∷ rest)
+next_with_send : (left : ℕ) (due : List (ℕ × Wanted)) (out : List (ℕ × Letter)) (to : ℕ) → next_with left due out ≡ Send to → (x : Letter)
+    × (rest : List (ℕ × Letter)) × (out ≡ (to, x) ∷ rest)
 next_with_send left due (x ∷ xs) to e = (x.1, xs, ap (λ (k : ℕ). (k, x.1) ∷ xs) (let h : x.0 ≡ to = cc in h))
 next_with_send left (x ∷ xs) [] to e = absurd (cc)
 next_with_send left [] [] to e = absurd (grind arith)
@@ -28,12 +30,14 @@ next_with_take left due (x ∷ xs) from e = absurd (cc)
 next_with_take left (x ∷ xs) [] from e = (refl, (x.1, xs, ap (λ (k : ℕ). (k, x.1) ∷ xs) (let h : x.0 ≡ from = cc in h)))
 next_with_take left [] [] from e = absurd (grind arith)
 
-next_with_work : (left : ℕ) (due : List (ℕ × Wanted)) (out : List (ℕ × Letter)) → next_with left due out ≡ Work → (out ≡ []) × (due ≡ []) × (left ≢ 0)
+next_with_work : (left : ℕ) (due : List (ℕ × Wanted)) (out : List (ℕ × Letter)) → next_with left due out ≡ Work → (out ≡ []) × (due ≡ [])
+    × (left ≢ 0)
 next_with_work left due (x ∷ xs) e = absurd (cc)
 next_with_work left (x ∷ xs) [] e = absurd (cc)
 next_with_work left [] [] e = (refl, refl, λ z. absurd (grind (arith, nat_tests)))
 
-next_with_done : (left : ℕ) (due : List (ℕ × Wanted)) (out : List (ℕ × Letter)) → next_with left due out ≡ Done → (out ≡ []) × (due ≡ []) × (left ≡ 0)
+next_with_done : (left : ℕ) (due : List (ℕ × Wanted)) (out : List (ℕ × Letter)) → next_with left due out ≡ Done → (out ≡ []) × (due ≡ [])
+    × (left ≡ 0)
 next_with_done left due (x ∷ xs) e = absurd (cc)
 next_with_done left (x ∷ xs) [] e = absurd (cc)
 next_with_done left [] [] e = (refl, refl, grind (arith, nat_tests))
@@ -41,7 +45,8 @@ next_with_done left [] [] e = (refl, refl, grind (arith, nat_tests))
 pub is_send : (v : Face) (to : ℕ) → next_of v ≡ Send to → (x : Letter) × (rest : List (ℕ × Letter)) × (v.out ≡ (to, x) ∷ rest)
 is_send v to e = next_with_send v.left v.due v.out to e
 
-pub is_take : (v : Face) (from : ℕ) → next_of v ≡ Take from → (v.out ≡ []) × ((w : Wanted) × (rest : List (ℕ × Wanted)) × (v.due ≡ (from, w) ∷ rest))
+pub is_take : (v : Face) (from : ℕ) → next_of v ≡ Take from → (v.out ≡ []) × ((w : Wanted) × (rest : List (ℕ × Wanted))
+    × (v.due ≡ (from, w) ∷ rest))
 is_take v from e = next_with_take v.left v.due v.out from e
 
 pub is_work : (v : Face) → next_of v ≡ Work → (v.out ≡ []) × (v.due ≡ []) × (v.left ≢ 0)

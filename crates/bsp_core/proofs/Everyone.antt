@@ -1,5 +1,6 @@
 -- Phases in which each node sends to all others, or all others send to node 0.
-use Rattle.std.proofs.Common.{◌≡◌, ◌≢◌, ℕ, suc, zero, ◌+◌, ◌<◌, ◌≤◌, List, [], ◌∷◌, ◌++◌, ◌⊎◌, inl, inr, map, arith, refl, sym, ◌∙◌, ap, subst}
+use Rattle.std.proofs.Common.{◌≡◌, ◌≢◌, ℕ, suc, zero, ◌+◌, ◌<◌, ◌≤◌, List, [], ◌∷◌, ◌++◌, ◌⊎◌, inl, inr, map, arith, refl, sym, ◌∙◌, ap}
+use Rattle.std.proofs.Common.{subst}
 use Rattle.std.proofs.lemmas.List.{append-nil, map-append}
 use Rattle.std.proofs.lemmas.Bool.{cases_eq}
 use Rattle.std.proofs.lemmas.Bool.Decides.{nat_tests}
@@ -37,15 +38,18 @@ under_more : (y z : ℕ) (xs : List ℕ) → Under y xs → y ≤ z → Under z 
 under_more y z [] h l = tt
 under_more y z (x ∷ xs) h l = (omega (arith, h.0), under_more y z xs h.1 l)
 
-asc_snoc : (me count low : ℕ) (xs : List ℕ) (y : ℕ) → Ascends me count low xs → Under y xs → low ≤ y → y < count → y ≢ me → Ascends me count low (xs ++ y ∷ [])
+asc_snoc : (me count low : ℕ) (xs : List ℕ) (y : ℕ) → Ascends me count low xs → Under y xs → low ≤ y → y < count → y ≢ me
+    → Ascends me count low (xs ++ y ∷ [])
 asc_snoc me count low [] y h b l c n = (l, c, n, tt)
 asc_snoc me count low (x ∷ xs) y h b l c n = (h.0, h.1, h.2, asc_snoc me count (x + 1) xs y h.3 b.1 (omega (arith, b.0)) c n)
 
 others_under : (me k : ℕ) → Under k (others me k)
 others_under me zero = tt
 others_under me (suc k) = elim (cases_eq k me) [
-  | inl e ↦ subst (λ (z : List ℕ). Under (suc k) z) (sym (others_at me k e)) (under_more k (suc k) (others me k) (others_under me k) (omega arith))
-  | inr e ↦ subst (λ (z : List ℕ). Under (suc k) z) (sym (others_by me k e)) (under_snoc k k (others me k) (others_under me k) (omega arith))
+  | inl e ↦ subst (λ (z : List ℕ). Under (suc k) z) (sym (others_at me k e)) (under_more k (suc k) (others me k) (others_under me k)
+      (omega arith))
+  | inr e ↦ subst (λ (z : List ℕ). Under (suc k) z) (sym (others_by me k e)) (under_snoc k k (others me k) (others_under me k)
+      (omega arith))
 ]
 
 pub others_ascend : (me count k : ℕ) → k ≤ count → Ascends me count 0 (others me k)
@@ -57,9 +61,11 @@ others_ascend me count (suc k) h = elim (cases_eq k me) [
 ]
 
 -- what all others have for p
-each_last : {A : Type 0} (f : ℕ → A) (me p k : ℕ) → k ≢ me → for_node p (each f (others me (suc k))) ≡ for_node p (each f (others me k)) ++ for_node p ((k, f k) ∷ [])
+each_last : {A : Type 0} (f : ℕ → A) (me p k : ℕ) → k ≢ me → for_node p (each f (others me (suc k))) ≡ for_node p (each f (others me k))
+    ++ for_node p ((k, f k) ∷ [])
 each_last f me p k e =
-    ap (λ (z : List ℕ). for_node p (each f z)) (others_by me k e) ∙ ap (for_node p) (each_append f (others me k) (k ∷ [])) ∙ for_node-append p (each f (others me k)) ((k, f k) ∷ [])
+    ap (λ (z : List ℕ). for_node p (each f z)) (others_by me k e) ∙ ap (for_node p) (each_append f (others me k) (k ∷ []))
+    ∙ for_node-append p (each f (others me k)) ((k, f k) ∷ [])
 
 pub each_none : {A : Type 0} (f : ℕ → A) (me p k : ℕ) → (p ≡ me) ⊎ (k ≤ p) → for_node p (each f (others me k)) ≡ []
 each_none f me p zero h = refl
@@ -75,7 +81,8 @@ each_none f me p (suc k) h =
 pub each_one : {A : Type 0} (f : ℕ → A) (me p k : ℕ) → p ≢ me → p < k → for_node p (each f (others me k)) ≡ f p ∷ []
 each_one f me p zero n l = absurd (omega arith)
 each_one f me p (suc k) n l = elim (cases_eq p k) [
-  | inl e ↦ each_last f me p k (λ z. n (e ∙ z)) ∙ ap (λ (z : List _). z ++ for_node p ((k, f k) ∷ [])) (each_none f me p k (inr (omega arith)))
+  | inl e ↦ each_last f me p k (λ z. n (e ∙ z)) ∙ ap (λ (z : List _). z ++ for_node p ((k, f k) ∷ []))
+      (each_none f me p k (inr (omega arith)))
       ∙ for_node_same p k (f k) [] e ∙ ap (λ (j : ℕ). f j ∷ []) (sym e)
   | inr e ↦ elim (cases_eq k me) [
     | inl i ↦ ap (λ (z : List ℕ). for_node p (each f z)) (others_at me k i) ∙ each_one f me p k n (omega (arith, e))
@@ -91,13 +98,15 @@ serves_by ws vs xs ys e i h = subst (λ (z : List Wanted). Serves z xs) (sym e) 
 pub all_serves : (wanted : ℕ → Wanted) (letter : ℕ → Letter) (n p q : ℕ) → p < n → q < n → (p ≢ q → Fits (wanted p) (letter q)) →
     Serves (for_node p (each wanted (others q n))) (for_node q (each letter (others p n)))
 all_serves wanted letter n p q lp lq fits = elim (cases_eq p q) [
-  | inl e ↦ serves_by (for_node p (each wanted (others q n))) [] (for_node q (each letter (others p n))) [] (each_none wanted q p n (inl e)) (each_none letter p q n (inl (sym e))) tt
+  | inl e ↦ serves_by (for_node p (each wanted (others q n))) [] (for_node q (each letter (others p n))) []
+      (each_none wanted q p n (inl e)) (each_none letter p q n (inl (sym e))) tt
   | inr e ↦ serves_by (for_node p (each wanted (others q n))) (wanted p ∷ []) (for_node q (each letter (others p n))) (letter q ∷ [])
       (each_one wanted q p n e lp) (each_one letter p q n (λ z. e (sym z)) lq) (fits e)
 ]
 
 -- the letters that come from all others
-pub incoming_all : (row : ℕ → Face) (wanted : ℕ → Wanted) (x : ℕ → Letter) (p k : ℕ) → ((q : ℕ) → q < k → q ≢ p → for_node p (row q).out ≡ x q ∷ []) →
+pub incoming_all : (row : ℕ → Face) (wanted : ℕ → Wanted) (x : ℕ → Letter) (p k : ℕ)
+    → ((q : ℕ) → q < k → q ≢ p → for_node p (row q).out ≡ x q ∷ []) →
     incoming row p (each wanted (others p k)) ≡ map x (others p k)
 incoming_all row wanted x p zero h = refl
 incoming_all row wanted x p (suc k) h =

@@ -1,5 +1,6 @@
 -- Each action keeps a node at its place.
-use Rattle.std.proofs.Common.{◌≡◌, ◌≢◌, ℕ, suc, zero, ◌+◌, ◌<◌, ◌≤◌, List, [], ◌∷◌, ◌++◌, ◌⊎◌, inl, inr, length, get_or, leb, refl, sym, ◌∙◌, ap, subst, arith, length-append, append_assoc}
+use Rattle.std.proofs.Common.{◌≡◌, ◌≢◌, ℕ, suc, zero, ◌+◌, ◌<◌, ◌≤◌, List, [], ◌∷◌, ◌++◌, ◌⊎◌, inl, inr, length, get_or, leb, refl, sym}
+use Rattle.std.proofs.Common.{◌∙◌, ap, subst, arith, length-append, append_assoc}
 use Rattle.std.proofs.lemmas.List.{append-nil, get_or_append_left, get_or_at}
 use Rattle.std.proofs.lemmas.Grind.{common_steps}
 use Rattle.std.proofs.lemmas.Bool.Decides.{nat_tests}
@@ -15,7 +16,8 @@ pub for_node-append : {A : Type 0} (q : ℕ) (xs ys : List (ℕ × A)) → for_n
 for_node-append q [] ys = refl
 for_node-append q (x ∷ xs) ys = grind (arith, for_node-append q xs ys, nat_tests)
 
-pub incoming-append : (row : ℕ → Face) (q : ℕ) (xs ys : List (ℕ × Wanted)) → incoming row q (xs ++ ys) ≡ incoming row q xs ++ incoming row q ys
+pub incoming-append : (row : ℕ → Face) (q : ℕ) (xs ys : List (ℕ × Wanted)) → incoming row q (xs ++ ys) ≡ incoming row q xs
+    ++ incoming row q ys
 incoming-append row q [] ys = refl
 incoming-append row q (x ∷ xs) ys =
     ap (λ (z : List Letter). for_node q (row x.0).out ++ z) (incoming-append row q xs ys)
@@ -67,7 +69,8 @@ one_less_due m m' a b d all e i h = omega arith
 -- a send
 pub send_stand : (rows : ℕ → ℕ → Face) (n p f : ℕ) (v : Face) (to : ℕ) (x : Letter) (rest : List (ℕ × Letter))
     (sent sent' : ℕ → List Letter) (taken : ℕ → ℕ) (moves moves' : ℕ) → StandsAt rows n p f v sent taken moves → v.out ≡ (to, x) ∷ rest →
-    sent' to ≡ sent to ++ x ∷ [] → ((q : ℕ) → q ≢ to → sent' q ≡ sent q) → moves' ≡ moves + 1 → StandsAt rows n p f (sent_from v rest) sent' taken moves'
+    sent' to ≡ sent to ++ x ∷ [] → ((q : ℕ) → q ≢ to → sent' q ≡ sent q) → moves' ≡ moves + 1
+    → StandsAt rows n p f (sent_from v rest) sent' taken moves'
 send_stand rows n p f v to x rest sent sent' taken moves moves' h e here there one = record {
   posted = h.posted ++ (to, x) ∷ [];
   fetched = h.fetched;
@@ -87,13 +90,16 @@ send_stand rows n p f v to x rest sent sent' taken moves moves' h e here there o
         ∙ h.sent_is q l
   ];
   taken_is = h.taken_is;
-  moves_are = one_less moves moves' (length v.out) (length rest) (length v.due) (moves_before rows p f + moves_in rows p f) one (ap length e) h.moves_are;
+  moves_are = one_less moves moves' (length v.out) (length rest) (length v.due) (moves_before rows p f + moves_in rows p f) one
+      (ap length e) h.moves_are;
   before = h.before;
 }
 
-front_at : (s m up more : List Letter) (x d : Letter) (k : ℕ) → s ++ m ≡ (up ++ x ∷ []) ++ more → length up ≡ k → k < length s → get_or s k d ≡ x
+front_at : (s m up more : List Letter) (x d : Letter) (k : ℕ) → s ++ m ≡ (up ++ x ∷ []) ++ more → length up ≡ k → k < length s
+    → get_or s k d ≡ x
 front_at s m up more x d k e l lt =
-    sym (get_or_append_left s m d k lt) ∙ ap (λ (z : List Letter). get_or z k d) (e ∙ append_assoc up (x ∷ []) more) ∙ get_or_at up x more d k l
+    sym (get_or_append_left s m d k lt) ∙ ap (λ (z : List Letter). get_or z k d) (e ∙ append_assoc up (x ∷ []) more)
+    ∙ get_or_at up x more d k l
 
 not_behind : (s m all : List Letter) (k : ℕ) → s ++ m ≡ all → length all ≤ k → k < length s → ⊥
 not_behind s m all k e l lt = omega (arith, length-append s m, ap length e)
@@ -145,13 +151,15 @@ front_is rows n p q f g u v from rest sentp sentq takenp takenq movesp moves d m
     let same : get_or (sentp q) (takenq p) d ≡ one.0 =
     elim (le_or_more f g) [
       | inl le ↦
-          let m : (more : List Letter) × (upto rows p q (suc g) ≡ upto rows p q (suc f) ++ more) = upto_more rows p q (suc f) (suc g) (omega arith) in
+          let m : (more : List Letter) × (upto rows p q (suc g) ≡ upto rows p q (suc f) ++ more) = upto_more rows p q (suc f) (suc g)
+          (omega arith) in
           front_at (sentp q) (for_node q u.out) (upto rows p q f) m.0 one.0 d (takenq p)
           (hu.sent_is q lq ∙ m.1 ∙ ap (λ (z : List Letter). z ++ m.0) here) count more
       | inr lt ↦
           let m : (more : List Letter) × (upto rows p q f ≡ upto rows p q (suc g) ++ more) = upto_more rows p q (suc g) f (omega arith) in
           absurd (not_behind (sentp q) (for_node q u.out) (upto rows p q (suc g)) (takenq p) (hu.sent_is q lq)
-          (let l : length (upto rows p q f) ≡ length (upto rows p q (suc g)) + length m.0 = ap length m.1 ∙ length-append (upto rows p q (suc g)) m.0 in omega (arith, l, count)) more)
+          (let l : length (upto rows p q f) ≡ length (upto rows p q (suc g)) + length m.0 = ap length m.1
+          ∙ length-append (upto rows p q (suc g)) m.0 in omega (arith, l, count)) more)
     ] in
     (subst (λ (z : Letter). Fits from z) (sym same) one.2, one.1 ∙ ap (λ (z : Letter). z ∷ []) (sym same))
 
@@ -163,7 +171,8 @@ worked_taken k a b up xs h e i = omega (arith, length-append up xs)
 
 -- a take
 pub take_stand : (rows : ℕ → ℕ → Face) (n p q f : ℕ) (v : Face) (x : Letter) (from : Wanted) (rest : List (ℕ × Wanted))
-    (sent : ℕ → List Letter) (taken taken' : ℕ → ℕ) (moves moves' : ℕ) → StandsAt rows n q f v sent taken moves → v.out ≡ [] → v.due ≡ (p, from) ∷ rest →
+    (sent : ℕ → List Letter) (taken taken' : ℕ → ℕ) (moves moves' : ℕ) → StandsAt rows n q f v sent taken moves → v.out ≡ []
+    → v.due ≡ (p, from) ∷ rest →
     for_node q (rows f p).out ≡ x ∷ [] → taken' p ≡ taken p + 1 → ((r : ℕ) → r ≢ p → taken' r ≡ taken r) → moves' ≡ moves + 1 →
     StandsAt rows n q f (taken_into v rest x) sent taken' moves'
 take_stand rows n p q f v x from rest sent taken taken' moves moves' h o e planned here there one = record {
@@ -181,13 +190,15 @@ take_stand rows n p q f v x from rest sent taken taken' moves moves' h o e plann
   sent_is = h.sent_is;
   taken_is = λ r l. elim (cases_eq r p) [
     | inl i ↦ took_here (taken' r) (taken r) (length (for_node r v.due)) (length (for_node r rest)) (length (upto rows r q (suc f)))
-        (ap taken' i ∙ here ∙ ap (λ (k : ℕ). taken k + 1) (sym i)) (ap length (ap (for_node r) e ∙ for_node_same r p from rest i)) (h.taken_is r l)
+        (ap taken' i ∙ here ∙ ap (λ (k : ℕ). taken k + 1) (sym i)) (ap length (ap (for_node r) e ∙ for_node_same r p from rest i))
+        (h.taken_is r l)
     | inr i ↦
         ap (λ (k : ℕ). k + length (for_node r rest)) (there r i)
         ∙ ap (λ (k : ℕ). taken r + k) (sym (ap length (ap (for_node r) e ∙ for_node_other r p from rest i)))
         ∙ h.taken_is r l
   ];
-  moves_are = one_less_due moves moves' (length v.due) (length rest) (length v.out) (moves_before rows q f + moves_in rows q f) one (ap length e) h.moves_are;
+  moves_are = one_less_due moves moves' (length v.due) (length rest) (length v.out) (moves_before rows q f + moves_in rows q f) one
+      (ap length e) h.moves_are;
   before = h.before;
 }
 
@@ -195,9 +206,12 @@ take_stand rows n p q f v x from rest sent taken taken' moves moves' h o e plann
 pub is_ready : (rows : ℕ → ℕ → Face) (n p f : ℕ) (v : Face) (sent : ℕ → List Letter) (taken : ℕ → ℕ) (moves : ℕ) →
     StandsAt rows n p f v sent taken moves → v.out ≡ [] → v.due ≡ [] → v ≡ ready (rows f) p
 is_ready rows n p f v sent taken moves h o d =
-    h.is ∙ ap (λ (z : List (ℕ × Letter)). let b : Face = rows f p in record b { out = z; due = v.due; got = (rows f p).got ++ incoming (rows f) p h.fetched }) o
-    ∙ ap (λ (z : List (ℕ × Wanted)). let b : Face = rows f p in record b { out = []; due = z; got = (rows f p).got ++ incoming (rows f) p h.fetched }) d
-    ∙ ap (λ (z : List (ℕ × Wanted)). let b : Face = rows f p in record b { out = []; due = []; got = (rows f p).got ++ incoming (rows f) p z })
+    h.is ∙ ap (λ (z : List (ℕ × Letter)). let b : Face = rows f p in
+    record b { out = z; due = v.due; got = (rows f p).got ++ incoming (rows f) p h.fetched }) o
+    ∙ ap (λ (z : List (ℕ × Wanted)). let b : Face = rows f p in
+    record b { out = []; due = z; got = (rows f p).got ++ incoming (rows f) p h.fetched }) d
+    ∙ ap (λ (z : List (ℕ × Wanted)). let b : Face = rows f p in
+    record b { out = []; due = []; got = (rows f p).got ++ incoming (rows f) p z })
     (sym (append-nil h.fetched) ∙ ap (λ (z : List (ℕ × Wanted)). h.fetched ++ z) (sym d) ∙ h.due)
 
 some_left : (a b : ℕ) → a ≡ b → a ≢ 0 → 0 < b
@@ -208,13 +222,15 @@ next_moves m m' a b all c d e i j k h = omega arith
 
 -- a work
 pub work_stand : (rows : ℕ → ℕ → Face) (n p f : ℕ) (v w : Face) (sent : ℕ → List Letter) (taken : ℕ → ℕ) (moves moves' : ℕ) →
-    ((t : ℕ) → Meets n (rows t)) → p < n → StandsAt rows n p f v sent taken moves → v.out ≡ [] → v.due ≡ [] → v.left ≢ 0 → w ≡ rows (suc f) p → moves' ≡ moves + 1 →
+    ((t : ℕ) → Meets n (rows t)) → p < n → StandsAt rows n p f v sent taken moves → v.out ≡ [] → v.due ≡ [] → v.left ≢ 0
+    → w ≡ rows (suc f) p → moves' ≡ moves + 1 →
     StandsAt rows n p (suc f) w sent taken moves'
 work_stand rows n p f v w sent taken moves moves' meets lp h o d more e one = record {
   posted = [];
   fetched = [];
   is = e ∙ ap (λ (u : Face). let b : Face = rows (suc f) p in record b { out = u.out; due = u.due; got = (rows (suc f) p).got }) (sym e)
-      ∙ ap (λ (z : List Letter). let b : Face = rows (suc f) p in record b { out = w.out; due = w.due; got = z }) (sym (append-nil (rows (suc f) p).got));
+      ∙ ap (λ (z : List Letter). let b : Face = rows (suc f) p in record b { out = w.out; due = w.due; got = z })
+      (sym (append-nil (rows (suc f) p).got));
   out = ap (λ (u : Face). u.out) e;
   due = ap (λ (u : Face). u.due) e;
   order = inr refl;
@@ -223,10 +239,12 @@ work_stand rows n p f v w sent taken moves moves' meets lp h o d more e one = re
       ∙ ap (λ (z : List Letter). z ++ for_node q (rows (suc f) p).out)
       (sym (append-nil (sent q)) ∙ ap (λ (z : List (ℕ × Letter)). sent q ++ for_node q z) (sym o) ∙ h.sent_is q l);
   taken_is = λ q l.
-      worked_taken (taken q) (length (for_node q v.due)) (length (for_node q w.due)) (upto rows q p (suc f)) (for_node p (rows (suc f) q).out)
+      worked_taken (taken q) (length (for_node q v.due)) (length (for_node q w.due)) (upto rows q p (suc f))
+      (for_node p (rows (suc f) q).out)
       (h.taken_is q l) (ap (λ (z : List (ℕ × Wanted)). length (for_node q z)) d)
       (ap (λ (u : Face). length (for_node q u.due)) e ∙ serves_length _ _ ((meets (suc f)).serves q p l lp));
-  moves_are = next_moves moves moves' (length v.out) (length v.due) (moves_before rows p f + moves_in rows p f) (length w.out + length w.due) (moves_in rows p (suc f)) one
+  moves_are = next_moves moves moves' (length v.out) (length v.due) (moves_before rows p f + moves_in rows p f)
+      (length w.out + length w.due) (moves_in rows p (suc f)) one
       (ap length o) (ap length d) (ap (λ (u : Face). length u.out + length u.due) e) h.moves_are;
   before = λ t lt. elim (cases_eq t f) [
     | inl i ↦ subst (λ (k : ℕ). 0 < (rows k 0).left) (sym i)
@@ -236,7 +254,8 @@ work_stand rows n p f v w sent taken moves moves' meets lp h o d more e one = re
 }
 
 -- lists by nodes name others
-pub ascends_mid : {A : Type 0} (me n low : ℕ) (xs : List (ℕ × A)) (k : ℕ) (w : A) (ys : List (ℕ × A)) → Ascends me n low (nodes_in (xs ++ (k, w) ∷ ys)) → (k < n) × (k ≢ me)
+pub ascends_mid : {A : Type 0} (me n low : ℕ) (xs : List (ℕ × A)) (k : ℕ) (w : A) (ys : List (ℕ × A))
+    → Ascends me n low (nodes_in (xs ++ (k, w) ∷ ys)) → (k < n) × (k ≢ me)
 ascends_mid me n low [] k w ys h = (h.1, h.2)
 ascends_mid me n low (x ∷ xs) k w ys h = ascends_mid me n (x.0 + 1) xs k w ys h.3
 
@@ -244,5 +263,6 @@ pub ascends_few : {A : Type 0} (me n low : ℕ) (xs : List (ℕ × A)) → low �
 ascends_few me n low [] l h = omega arith
 ascends_few me n low (x ∷ xs) l h = omega (arith, h.0, ascends_few me n (x.0 + 1) xs (omega (arith, h.1)) h.3)
 
-pub row_room : {A B : Type 0} (me n : ℕ) (xs : List (ℕ × A)) (ys : List (ℕ × B)) → n ≤ 16 → Ascends me n 0 (nodes_in xs) → Ascends me n 0 (nodes_in ys) → length xs + length ys ≤ 32
+pub row_room : {A B : Type 0} (me n : ℕ) (xs : List (ℕ × A)) (ys : List (ℕ × B)) → n ≤ 16 → Ascends me n 0 (nodes_in xs)
+    → Ascends me n 0 (nodes_in ys) → length xs + length ys ≤ 32
 row_room me n xs ys l h i = omega (arith, ascends_few me n 0 xs (omega arith) h, ascends_few me n 0 ys (omega arith) i)

@@ -1,5 +1,7 @@
 -- Turns move as the plan says.
-use Rattle.std.proofs.Common.{◌≡◌, ◌≢◌, ◌==◌, ℕ, suc, zero, ◌+◌, ◌-◌, ◌*◌, ◌%◌, ◌<◌, ◌≤◌, Bool, true, false, List, [], ◌∷◌, ◌++◌, ◌⊎◌, inl, inr, if◌then◌else◌, length, map, drop, refl, sym, ◌∙◌, ap, subst, arith, length-append, append_assoc, Some, None, Option, slice_get}
+use Rattle.std.proofs.Common.{◌≡◌, ◌≢◌, ◌==◌, ℕ, suc, zero, ◌+◌, ◌-◌, ◌*◌, ◌%◌, ◌<◌, ◌≤◌, Bool, true, false, List, [], ◌∷◌, ◌++◌, ◌⊎◌, inl}
+use Rattle.std.proofs.Common.{inr, if◌then◌else◌, length, map, drop, refl, sym, ◌∙◌, ap, subst, arith, length-append, append_assoc, Some}
+use Rattle.std.proofs.Common.{None, Option, slice_get}
 use Rattle.std.specs.Prelude.{nat_lt}
 use Rattle.std.proofs.lemmas.List.{append-nil}
 use Rattle.std.proofs.Math.Seq.{drop-append-add, drop-append_seam}
@@ -15,8 +17,10 @@ use Rattle.bsp_core.specs.declared.turned.Turned.{Turned}
 use Rattle.bsp_core.specs.declared.turned.Turned.TheVariants.{Moved, NotReady, Done as EndOfAll}
 use Rattle.bsp_core.specs.Views.{Face, View, Meets, for_node, next_of, next_with}
 use Rattle.bsp_core.specs.Lockstep.{StandsAt, moves_before, moves_in, times_in, upto}
-use Rattle.bsp_core.specs.Turns.{WorldState, IsInLockstep, IsStill, AreDone, Acted, Moves, TurnIs, IsFirst, Sends, TakesUp, Works, drawn, next_seed, rounds, nodes_below, sent_of, taken_of_pair, moves_of}
-use Rattle.bsp_core.specs.Script.{next_place, place_after, place_in, out_at, due_at, want_at, count_sent, count_taken, can_do, can_move, turned_by, moves_by, first_can, with_first, draw, seeds, moves_drawn}
+use Rattle.bsp_core.specs.Turns.{WorldState, IsInLockstep, IsStill, AreDone, Acted, Moves, TurnIs, IsFirst, Sends, TakesUp, Works, drawn}
+use Rattle.bsp_core.specs.Turns.{next_seed, rounds, nodes_below, sent_of, taken_of_pair, moves_of}
+use Rattle.bsp_core.specs.Script.{next_place, place_after, place_in, out_at, due_at, want_at, count_sent, count_taken, can_do, can_move}
+use Rattle.bsp_core.specs.Script.{turned_by, moves_by, first_can, with_first, draw, seeds, moves_drawn}
 use Rattle.bsp_core.proofs.Places.{le_or_more}
 use Rattle.bsp_core.proofs.Scene.{get_below}
 use Rattle.bsp_core.proofs.Playing.{move_grows}
@@ -61,7 +65,8 @@ place_is rows p (suc m) (suc f) zero e l =
 drop_more : {A : Type 0} (xs ys : List A) (k : ℕ) → k ≡ length xs → drop k (xs ++ ys) ≡ ys
 drop_more xs ys k e = ap (λ (z : ℕ). drop z (xs ++ ys)) e ∙ drop-append_seam xs ys
 
-module _ (rows : ℕ → ℕ → Face) (n p f : ℕ) (v : Face) (sent : ℕ → List Letter) (taken : ℕ → ℕ) (m : ℕ) (h : StandsAt rows n p f v sent taken m) where
+module _ (rows : ℕ → ℕ → Face) (n p f : ℕ) (v : Face) (sent : ℕ → List Letter) (taken : ℕ → ℕ) (m : ℕ)
+    (h : StandsAt rows n p f v sent taken m) where
   abbrev done_here : ℕ
   done_here = length h.posted + length h.fetched
 
@@ -79,7 +84,8 @@ module _ (rows : ℕ → ℕ → Face) (n p f : ℕ) (v : Face) (sent : ℕ → 
       ap (out_at rows p) stand_place
       ∙ elim h.order [
         | inl o ↦ drop_of_length-le (rows f p).out (let e : length v.out ≡ 0 = ap length o in omega (arith, e, out_length)) ∙ sym o
-        | inr o ↦ ap (drop done_here) (sym h.out) ∙ drop_more h.posted v.out done_here (let e : length h.fetched ≡ 0 = ap length o in omega (arith, e))
+        | inr o ↦ ap (drop done_here) (sym h.out) ∙ drop_more h.posted v.out done_here (let e : length h.fetched ≡ 0 = ap length o in
+            omega (arith, e))
       ]
 
   stand_due : due_at rows p (place_after rows p m) ≡ v.due
@@ -87,13 +93,16 @@ module _ (rows : ℕ → ℕ → Face) (n p f : ℕ) (v : Face) (sent : ℕ → 
       ap (due_at rows p) stand_place
       ∙ ap (drop (done_here - length (rows f p).out)) (sym h.due)
       ∙ elim h.order [
-        | inl o ↦ drop_more h.fetched v.due (done_here - length (rows f p).out) (let e : length v.out ≡ 0 = ap length o in omega (arith, e, out_length))
-        | inr o ↦ drop_more h.fetched v.due (done_here - length (rows f p).out) (let e : length h.fetched ≡ 0 = ap length o in omega (arith, e, out_length))
+        | inl o ↦ drop_more h.fetched v.due (done_here - length (rows f p).out) (let e : length v.out ≡ 0 = ap length o in
+            omega (arith, e, out_length))
+        | inr o ↦ drop_more h.fetched v.due (done_here - length (rows f p).out) (let e : length h.fetched ≡ 0 = ap length o in
+            omega (arith, e, out_length))
       ]
 
   pub stand_want : want_at rows p (place_after rows p m) ≡ next_of v
   stand_want =
-      ap (λ (z : ℕ × ℕ). next_with (rows z.0 p).left (due_at rows p (place_after rows p m)) (out_at rows p (place_after rows p m))) stand_place
+      ap (λ (z : ℕ × ℕ). next_with (rows z.0 p).left (due_at rows p (place_after rows p m)) (out_at rows p (place_after rows p m)))
+      stand_place
       ∙ ap (λ (z : _). next_with (rows f p).left z (out_at rows p (place_after rows p m))) stand_due
       ∙ ap (λ (z : _). next_with (rows f p).left v.due z) stand_out
       ∙ ap (λ (z : ℕ). next_with z v.due v.out) (sym (ap (λ (u : Face). u.left) h.is))
@@ -102,7 +111,8 @@ module _ (rows : ℕ → ℕ → Face) (n p f : ℕ) (v : Face) (sent : ℕ → 
   stand_sent q l =
       ap (λ (z : ℕ × ℕ). length (upto rows p q (suc z.0)) - length (for_node q (out_at rows p (place_after rows p m)))) stand_place
       ∙ ap (λ (z : _). length (upto rows p q (suc f)) - length (for_node q z)) stand_out
-      ∙ (let e : length (sent q) + length (for_node q v.out) ≡ length (upto rows p q (suc f)) = sym (length-append (sent q) (for_node q v.out)) ∙ ap length (h.sent_is q l) in omega (arith, e))
+      ∙ (let e : length (sent q) + length (for_node q v.out) ≡ length (upto rows p q (suc f)) = sym
+      (length-append (sent q) (for_node q v.out)) ∙ ap length (h.sent_is q l) in omega (arith, e))
 
   pub stand_taken : (q : ℕ) → q < n → count_taken rows q p (place_after rows p m) ≡ taken q
   stand_taken q l =
@@ -112,19 +122,23 @@ module _ (rows : ℕ → ℕ → Face) (n p f : ℕ) (v : Face) (sent : ℕ → 
 
 -- ---- a World
 
-module _ {N S : Type 0} (view : N → View S) (rows : ℕ → ℕ → Face) (holds : ℕ → ℕ → S → Type 0) (n : ℕ) (meets : (t : ℕ) → Meets n (rows t)) (falls : (t : ℕ) → (rows (t + 1) 0).left ≤ (rows t 0).left - 1)
+module _ {N S : Type 0} (view : N → View S) (rows : ℕ → ℕ → Face) (holds : ℕ → ℕ → S → Type 0) (n : ℕ) (meets : (t : ℕ)
+    → Meets n (rows t)) (falls : (t : ℕ) → (rows (t + 1) 0).left ≤ (rows t 0).left - 1)
     (w : WorldState N) (h : IsInLockstep view rows holds n w) where
   stands : (p : ℕ) (v : N) → slice_get w.nodes p ≡ Some v →
-      (p < n) × ((f : ℕ) × StandsAt rows n p f (view v).face (sent_of n w.sent p) (λ q. taken_of_pair n w.taken q p) (moves_of w.moved p) × holds f p (view v).state)
+      (p < n) × ((f : ℕ) × StandsAt rows n p f (view v).face (sent_of n w.sent p) (λ q. taken_of_pair n w.taken q p) (moves_of w.moved p)
+      × holds f p (view v).state)
   stands p v e = stand_in view rows holds n meets w.nodes w.sent w.taken w.moved h p v e
 
   size : n ≡ length w.nodes
   size = n_is view rows holds n meets w.nodes w.sent w.taken w.moved h
 
   want_is : (p : ℕ) (v : N) → slice_get w.nodes p ≡ Some v → want_at rows p (place_in rows w.moved p) ≡ next_of (view v).face
-  want_is p v e = let s = stands p v e in stand_want rows n p s.1.0 (view v).face (sent_of n w.sent p) (λ q. taken_of_pair n w.taken q p) (moves_of w.moved p) s.1.1
+  want_is p v e = let s = stands p v e in stand_want rows n p s.1.0 (view v).face (sent_of n w.sent p) (λ q. taken_of_pair n w.taken q p)
+      (moves_of w.moved p) s.1.1
 
-  can_is : (p : ℕ) (v : N) (want : Want) → slice_get w.nodes p ≡ Some v → next_of (view v).face ≡ want → can_move rows w.moved p ≡ can_do rows w.moved p want
+  can_is : (p : ℕ) (v : N) (want : Want) → slice_get w.nodes p ≡ Some v → next_of (view v).face ≡ want
+      → can_move rows w.moved p ≡ can_do rows w.moved p want
   can_is p v want e d = ap (can_do rows w.moved p) (want_is p v e ∙ d)
 
   can_take : (p from : ℕ) (v : N) → slice_get w.nodes p ≡ Some v → from < n → next_of (view v).face ≡ Take from →
@@ -137,12 +151,18 @@ module _ {N S : Type 0} (view : N → View S) (rows : ℕ → ℕ → Face) (hol
       ∙ ap (λ (z : ℕ). nat_lt z (count_sent rows from p (place_in rows w.moved from)))
       (stand_taken rows n p s.1.0 (view v).face (sent_of n w.sent p) (λ q. taken_of_pair n w.taken q p) (moves_of w.moved p) s.1.1 from l)
       ∙ ap (λ (z : ℕ). nat_lt (taken_of_pair n w.taken from p) z)
-      (stand_sent rows n from b.1.0 (view u.0).face (sent_of n w.sent from) (λ q. taken_of_pair n w.taken q from) (moves_of w.moved from) b.1.1 p s.0)
+      (stand_sent rows n from b.1.0 (view u.0).face (sent_of n w.sent from) (λ q. taken_of_pair n w.taken q from) (moves_of w.moved from)
+      b.1.1 p s.0)
 
   pub still_cant : (p : ℕ) → IsStill view p w → can_move rows w.moved p ≡ false
   still_cant p still = elim still [
     | inl a ↦
-        let l : a.from < n = omega (arith, size, other_in view rows holds n meets w.nodes w.sent w.taken w.moved h p a.from a.node a.is a.from_in) in
+        let l : a.from < n = omega (
+          arith,
+          size,
+          other_in view rows holds n meets w.nodes w.sent w.taken w.moved h p a.from a.node a.is
+              a.from_in,
+        ) in
         can_take p a.from a.node a.is l a.due
         ∙ not_less (taken_of_pair n w.taken a.from p) (length (sent_of n w.sent a.from p))
         (subst (λ (z : ℕ). length (sent_of z w.sent a.from p) ≤ taken_of_pair z w.taken a.from p) (sym size) a.empty)
@@ -151,7 +171,12 @@ module _ {N S : Type 0} (view : N → View S) (rows : ℕ → ℕ → Face) (hol
 
   from_in : (p from : ℕ) (v : N) → slice_get w.nodes p ≡ Some v → next_of (view v).face ≡ Take from → from < n
   from_in p from v e d =
-      omega (arith, size, other_in view rows holds n meets w.nodes w.sent w.taken w.moved h p from v e (from_there view rows holds n meets falls w h p from v e d))
+      omega (
+        arith,
+        size,
+        other_in view rows holds n meets w.nodes w.sent w.taken w.moved h p from v e
+            (from_there view rows holds n meets falls w h p from v e d),
+      )
 
   can_act : (p : ℕ) (v u : N) (w' : WorldState N) → slice_get w.nodes p ≡ Some v → Acted view p v u w w' → can_move rows w.moved p ≡ true
   can_act p v u w' e (Sends to x d posts t s) = can_is p v (Send to) e d
@@ -170,7 +195,8 @@ module _ {N S : Type 0} (view : N → View S) (rows : ℕ → ℕ → Face) (hol
   move_turns p w' m = m.moved ∙ sym (if_yes (can_move rows w.moved p) (w.moved ++ p ∷ []) w.moved (move_can p w' m))
 
   still_turns : (p : ℕ) (w' : WorldState N) → w' ≡ w → IsStill view p w → w'.moved ≡ turned_by rows w.moved p
-  still_turns p w' e s = ap (λ (z : WorldState N). z.moved) e ∙ sym (if_no (can_move rows w.moved p) (w.moved ++ p ∷ []) w.moved (still_cant p s))
+  still_turns p w' e s = ap (λ (z : WorldState N). z.moved) e
+      ∙ sym (if_no (can_move rows w.moved p) (w.moved ++ p ∷ []) w.moved (still_cant p s))
 
   pub turned_plan : (p : ℕ) (t : Turned) (w' : WorldState N) → TurnIs view p t w w' → w'.moved ≡ turned_by rows w.moved p
   turned_plan p Moved w' e = move_turns p w' e.0
@@ -183,7 +209,8 @@ module _ {N S : Type 0} (view : N → View S) (rows : ℕ → ℕ → Face) (hol
   first_is from j zero l still can = absurd (omega arith)
   first_is from zero (suc k) l still can =
       let e : from + 0 ≡ from = omega arith in
-      if_yes (can_move rows w.moved (from % n)) (Some (from % n)) (first_can rows w.moved n (from + 1) k) (subst (λ (z : ℕ). can_move rows w.moved (z % n) ≡ true) e can)
+      if_yes (can_move rows w.moved (from % n)) (Some (from % n)) (first_can rows w.moved n (from + 1) k)
+      (subst (λ (z : ℕ). can_move rows w.moved (z % n) ≡ true) e can)
       ∙ ap (λ (z : ℕ). Some (z % n)) (sym e)
   first_is from (suc j) (suc k) l still can =
       let e : (from + 1) + j ≡ from + suc j = omega arith in
@@ -191,7 +218,8 @@ module _ {N S : Type 0} (view : N → View S) (rows : ℕ → ℕ → Face) (hol
       if_no (can_move rows w.moved (from % n)) (Some (from % n)) (first_can rows w.moved n (from + 1) k)
       (still_cant (from % n) (subst (λ (y : ℕ). IsStill view (y % n) w) z (still 0 (omega arith))))
       ∙ first_is (from + 1) j k (omega arith)
-      (λ i li. subst (λ (y : ℕ). IsStill view (y % n) w) (let a : from + suc i ≡ (from + 1) + i = omega arith in a) (still (suc i) (omega arith)))
+      (λ i li. subst (λ (y : ℕ). IsStill view (y % n) w) (let a : from + suc i ≡ (from + 1) + i = omega arith in a)
+      (still (suc i) (omega arith)))
       (subst (λ (y : ℕ). can_move rows w.moved (y % n) ≡ true) (sym e) can)
       ∙ ap (λ (y : ℕ). Some (y % n)) e
 
@@ -210,22 +238,27 @@ pub moves_append : (rows : ℕ → ℕ → Face) (xs ys moved : List ℕ) → mo
 moves_append rows [] ys moved = refl
 moves_append rows (p ∷ xs) ys moved = moves_append rows xs ys (turned_by rows moved p)
 
-pub move_counts : {N S : Type 0} (view : N → View S) (k m p : ℕ) (a b c : WorldState N) → k ≤ 1 → length a.moved + m ≤ length b.moved → (0 < k → Moves view p b c) → (k ≡ 0 → c ≡ b) →
+pub move_counts : {N S : Type 0} (view : N → View S) (k m p : ℕ) (a b c : WorldState N) → k ≤ 1 → length a.moved + m ≤ length b.moved
+    → (0 < k → Moves view p b c) → (k ≡ 0 → c ≡ b) →
     length a.moved + (m + k) ≤ length c.moved
-move_counts view zero m p a b c l i moves same = let e : length c.moved ≡ length b.moved = ap (λ (z : WorldState _). length z.moved) (same refl) in omega (arith, e, i)
+move_counts view zero m p a b c l i moves same = let e : length c.moved ≡ length b.moved = ap (λ (z : WorldState _). length z.moved)
+    (same refl) in omega (arith, e, i)
 move_counts view (suc k) m p a b c l i moves same = omega (arith, move_grows view p b c (moves (omega arith)), i, l)
 
 -- a round more
 pub round_more : (rows : ℕ → ℕ → Face) (k n m : ℕ) (start moved : List ℕ) → m ≡ n → moved ≡ moves_by rows (rounds k n) start →
     moves_by rows (nodes_below m) moved ≡ moves_by rows (rounds (suc k) n) start
 round_more rows k n m start moved e h =
-    ap (λ (z : ℕ). moves_by rows (nodes_below z) moved) e ∙ ap (moves_by rows (nodes_below n)) h ∙ sym (moves_append rows (rounds k n) (nodes_below n) start)
+    ap (λ (z : ℕ). moves_by rows (nodes_below z) moved) e ∙ ap (moves_by rows (nodes_below n)) h
+    ∙ sym (moves_append rows (rounds k n) (nodes_below n) start)
 
 -- a draw more
-pub draw_more : (rows : ℕ → ℕ → Face) (k n from seed state : ℕ) (start moved : List ℕ) → from ≡ drawn n (next_seed state) → state ≡ seeds k seed → moved ≡ moves_drawn rows n seed k start →
+pub draw_more : (rows : ℕ → ℕ → Face) (k n from seed state : ℕ) (start moved : List ℕ) → from ≡ drawn n (next_seed state)
+    → state ≡ seeds k seed → moved ≡ moves_drawn rows n seed k start →
     draw rows n from moved ≡ moves_drawn rows n seed (suc k) start
 draw_more rows k n from seed state start moved f s h =
-    ap (λ (z : ℕ). draw rows n z moved) (f ∙ ap (λ (z : ℕ). drawn n (next_seed z)) s) ∙ ap (draw rows n (drawn n (next_seed (seeds k seed)))) h
+    ap (λ (z : ℕ). draw rows n z moved) (f ∙ ap (λ (z : ℕ). drawn n (next_seed z)) s)
+    ∙ ap (draw rows n (drawn n (next_seed (seeds k seed)))) h
 
 -- where all are done, further rounds move none
 rounds_join : (n j k : ℕ) → rounds (k + j) n ≡ rounds k n ++ rounds j n
@@ -243,10 +276,13 @@ module _ (rows : ℕ → ℕ → Face) (n : ℕ) (moved : List ℕ) (none : (p :
 
   none_round : (j : ℕ) → moves_by rows (rounds j n) moved ≡ moved
   none_round zero = refl
-  none_round (suc j) = moves_append rows (rounds j n) (nodes_below n) moved ∙ ap (moves_by rows (nodes_below n)) (none_round j) ∙ none_below n (omega arith)
+  none_round (suc j) = moves_append rows (rounds j n) (nodes_below n) moved ∙ ap (moves_by rows (nodes_below n)) (none_round j)
+      ∙ none_below n (omega arith)
 
-pub rounds_over : {N S : Type 0} (view : N → View S) (rows : ℕ → ℕ → Face) (holds : ℕ → ℕ → S → Type 0) (n : ℕ) (meets : (t : ℕ) → Meets n (rows t)) (falls : (t : ℕ) → (rows (t + 1) 0).left ≤ (rows t 0).left - 1)
-    (w : WorldState N) → IsInLockstep view rows holds n w → AreDone view w.nodes → (m : ℕ) → length w.nodes ≡ m → (k j : ℕ) (start : List ℕ) → k ≤ j →
+pub rounds_over : {N S : Type 0} (view : N → View S) (rows : ℕ → ℕ → Face) (holds : ℕ → ℕ → S → Type 0) (n : ℕ) (meets : (t : ℕ)
+    → Meets n (rows t)) (falls : (t : ℕ) → (rows (t + 1) 0).left ≤ (rows t 0).left - 1)
+    (w : WorldState N) → IsInLockstep view rows holds n w → AreDone view w.nodes → (m : ℕ) → length w.nodes ≡ m
+    → (k j : ℕ) (start : List ℕ) → k ≤ j →
     w.moved ≡ moves_by rows (rounds k m) start → w.moved ≡ moves_by rows (rounds j m) start
 rounds_over view rows holds n meets falls w h done m size k j start l e =
     let none : (p : ℕ) → p < m → can_move rows w.moved p ≡ false = λ p lp.
@@ -274,19 +310,24 @@ turned_longer rows moved p = elim (can_move rows moved p) as (λ b. Longer moved
 
 moves_longer : (rows : ℕ → ℕ → Face) (turns moved : List ℕ) → Longer moved (moves_by rows turns moved)
 moves_longer rows [] moved = longer_same moved moved refl
-moves_longer rows (p ∷ turns) moved = longer_more moved (turned_by rows moved p) (moves_by rows turns (turned_by rows moved p)) (turned_longer rows moved p) (moves_longer rows turns (turned_by rows moved p))
+moves_longer rows (p ∷ turns) moved = longer_more moved (turned_by rows moved p) (moves_by rows turns (turned_by rows moved p))
+    (turned_longer rows moved p) (moves_longer rows turns (turned_by rows moved p))
 
-rounds_longer : (rows : ℕ → ℕ → Face) (n j k : ℕ) (moved : List ℕ) → j ≤ k → Longer (moves_by rows (rounds j n) moved) (moves_by rows (rounds k n) moved)
+rounds_longer : (rows : ℕ → ℕ → Face) (n j k : ℕ) (moved : List ℕ) → j ≤ k → Longer (moves_by rows (rounds j n) moved)
+    (moves_by rows (rounds k n) moved)
 rounds_longer rows n j zero moved l = longer_same _ _ (ap (λ (z : ℕ). moves_by rows (rounds z n) moved) (let e : 0 ≡ j = omega arith in e))
 rounds_longer rows n j (suc k) moved l = elim (cases_eq j (suc k)) [
   | inl e ↦ longer_same _ _ (ap (λ (z : ℕ). moves_by rows (rounds z n) moved) (sym e))
   | inr e ↦
       longer_more _ _ _ (rounds_longer rows n j k moved (omega (arith, e)))
-      (subst (λ (z : List ℕ). Longer (moves_by rows (rounds k n) moved) z) (sym (moves_append rows (rounds k n) (nodes_below n) moved)) (moves_longer rows (nodes_below n) (moves_by rows (rounds k n) moved)))
+      (subst (λ (z : List ℕ). Longer (moves_by rows (rounds k n) moved) z) (sym (moves_append rows (rounds k n) (nodes_below n) moved))
+      (moves_longer rows (nodes_below n) (moves_by rows (rounds k n) moved)))
 ]
 
-draws_longer : (rows : ℕ → ℕ → Face) (n seed j k : ℕ) (moved : List ℕ) → j ≤ k → Longer (moves_drawn rows n seed j moved) (moves_drawn rows n seed k moved)
-draws_longer rows n seed j zero moved l = longer_same _ _ (ap (λ (z : ℕ). moves_drawn rows n seed z moved) (let e : 0 ≡ j = omega arith in e))
+draws_longer : (rows : ℕ → ℕ → Face) (n seed j k : ℕ) (moved : List ℕ) → j ≤ k → Longer (moves_drawn rows n seed j moved)
+    (moves_drawn rows n seed k moved)
+draws_longer rows n seed j zero moved l = longer_same _ _ (ap (λ (z : ℕ). moves_drawn rows n seed z moved) (let e : 0 ≡ j = omega arith in
+    e))
 draws_longer rows n seed j (suc k) moved l = elim (cases_eq j (suc k)) [
   | inl e ↦ longer_same _ _ (ap (λ (z : ℕ). moves_drawn rows n seed z moved) (sym e))
   | inr e ↦
@@ -302,14 +343,16 @@ no_rest : (xs ys : List ℕ) → Longer xs ys → length xs ≡ length ys → xs
 no_rest xs ys (([], e)) l = sym (e ∙ append-nil xs)
 no_rest xs ys ((p ∷ rest, e)) l = absurd (omega (arith, ap length e, length-append xs (p ∷ rest)))
 
-pub rounds_agree : (rows : ℕ → ℕ → Face) (n j k : ℕ) (moved : List ℕ) → length (moves_by rows (rounds j n) moved) ≡ length (moves_by rows (rounds k n) moved) →
+pub rounds_agree : (rows : ℕ → ℕ → Face) (n j k : ℕ) (moved : List ℕ) → length (moves_by rows (rounds j n) moved)
+    ≡ length (moves_by rows (rounds k n) moved) →
     moves_by rows (rounds j n) moved ≡ moves_by rows (rounds k n) moved
 rounds_agree rows n j k moved e = elim (le_or_more j k) [
   | inl l ↦ no_rest _ _ (rounds_longer rows n j k moved l) e
   | inr l ↦ sym (no_rest _ _ (rounds_longer rows n k j moved (omega arith)) (sym e))
 ]
 
-pub draws_agree : (rows : ℕ → ℕ → Face) (n seed j k : ℕ) (moved : List ℕ) → length (moves_drawn rows n seed j moved) ≡ length (moves_drawn rows n seed k moved) →
+pub draws_agree : (rows : ℕ → ℕ → Face) (n seed j k : ℕ) (moved : List ℕ) → length (moves_drawn rows n seed j moved)
+    ≡ length (moves_drawn rows n seed k moved) →
     moves_drawn rows n seed j moved ≡ moves_drawn rows n seed k moved
 draws_agree rows n seed j k moved e = elim (le_or_more j k) [
   | inl l ↦ no_rest _ _ (draws_longer rows n seed j k moved l) e

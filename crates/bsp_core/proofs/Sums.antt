@@ -1,5 +1,6 @@
 -- How many actions a plan has: two for each letter, and one for each work.
-use Rattle.std.proofs.Common.{◌≡◌, ◌≢◌, ℕ, suc, zero, ◌+◌, ◌*◌, ◌<◌, List, [], ◌∷◌, ◌++◌, inl, inr, length, refl, sym, ◌∙◌, ap, arith, length-append}
+use Rattle.std.proofs.Common.{◌≡◌, ◌≢◌, ℕ, suc, zero, ◌+◌, ◌*◌, ◌<◌, List, [], ◌∷◌, ◌++◌, inl, inr, length, refl, sym, ◌∙◌, ap, arith}
+use Rattle.std.proofs.Common.{length-append}
 use Rattle.std.proofs.lemmas.Bool.{cases_eq}
 use Rattle.std.proofs.lemmas.Bool.Decides.{nat_tests}
 use Rattle.bsp_core.specs.Views.{Face, Meets, for_node, Ascends, nodes_in}
@@ -39,11 +40,13 @@ sum_one_more (suc n) k f g l h i = elim (cases_eq n k) [
 ]
 
 -- a list by nodes below n, by parts
-parts : {A : Type 0} (me n low : ℕ) (xs : List (ℕ × A)) → Ascends me n low (nodes_in xs) → sum_below n (λ q. length (for_node q xs)) ≡ length xs
+parts : {A : Type 0} (me n low : ℕ) (xs : List (ℕ × A)) → Ascends me n low (nodes_in xs) → sum_below n (λ q. length (for_node q xs))
+    ≡ length xs
 parts me n low [] h = sum_zero n
 parts me n low (x ∷ xs) h =
     sum_one_more n x.0 (λ q. length (for_node q (x ∷ xs))) (λ q. length (for_node q xs)) h.1
-    (ap length (for_node_same x.0 x.0 x.1 xs refl) ∙ (let j : suc (length (for_node x.0 xs)) ≡ length (for_node x.0 xs) + 1 = omega arith in j))
+    (ap length (for_node_same x.0 x.0 x.1 xs refl) ∙ (let j : suc (length (for_node x.0 xs)) ≡ length (for_node x.0 xs)
+    + 1 = omega arith in j))
     (λ q ne. ap length (for_node_other q x.0 x.1 xs ne))
     ∙ ap (λ (k : ℕ). k + 1) (parts me n (x.0 + 1) xs h.3) ∙ (let j : length xs + 1 ≡ suc (length xs) = omega arith in j)
 
@@ -84,19 +87,23 @@ in_phase rows n t = sum_below n (λ p. sum_below n (λ q. length (for_node q (ro
 
 letters_next : (rows : ℕ → ℕ → Face) (n t : ℕ) → letters_before rows n (suc t) ≡ letters_before rows n t + in_phase rows n t
 letters_next rows n t =
-    sum_ext n (λ p. sum_below n (λ q. length (upto rows p q (suc t)))) (λ p. sum_below n (λ q. length (upto rows p q t)) + sum_below n (λ q. length (for_node q (rows t p).out)))
-    (λ p l. sum_ext n (λ q. length (upto rows p q (suc t))) (λ q. length (upto rows p q t) + length (for_node q (rows t p).out)) (λ q k. length-append (upto rows p q t) (for_node q (rows t p).out))
+    sum_ext n (λ p. sum_below n (λ q. length (upto rows p q (suc t)))) (λ p. sum_below n (λ q. length (upto rows p q t))
+    + sum_below n (λ q. length (for_node q (rows t p).out)))
+    (λ p l. sum_ext n (λ q. length (upto rows p q (suc t))) (λ q. length (upto rows p q t) + length (for_node q (rows t p).out))
+    (λ q k. length-append (upto rows p q t) (for_node q (rows t p).out))
     ∙ sum_add n (λ q. length (upto rows p q t)) (λ q. length (for_node q (rows t p).out)))
     ∙ sum_add n (λ p. sum_below n (λ q. length (upto rows p q t))) (λ p. sum_below n (λ q. length (for_node q (rows t p).out)))
 
 sends_in : (rows : ℕ → ℕ → Face) (n t : ℕ) → Meets n (rows t) → sum_below n (λ p. length (rows t p).out) ≡ in_phase rows n t
-sends_in rows n t m = sum_ext n (λ p. length (rows t p).out) (λ p. sum_below n (λ q. length (for_node q (rows t p).out))) (λ p l. sym (parts p n 0 (rows t p).out (m.out p l)))
+sends_in rows n t m = sum_ext n (λ p. length (rows t p).out) (λ p. sum_below n (λ q. length (for_node q (rows t p).out)))
+    (λ p l. sym (parts p n 0 (rows t p).out (m.out p l)))
 
 takes_in : (rows : ℕ → ℕ → Face) (n t : ℕ) → Meets n (rows t) → sum_below n (λ p. length (rows t p).due) ≡ in_phase rows n t
 takes_in rows n t m =
     sum_ext n (λ p. length (rows t p).due) (λ p. sum_below n (λ q. length (for_node p (rows t q).out)))
     (λ p l. sym (parts p n 0 (rows t p).due (m.due p l))
-    ∙ sum_ext n (λ q. length (for_node q (rows t p).due)) (λ q. length (for_node p (rows t q).out)) (λ q k. serves_length _ _ (m.serves q p k l)))
+    ∙ sum_ext n (λ q. length (for_node q (rows t p).due)) (λ q. length (for_node p (rows t q).out))
+    (λ q k. serves_length _ _ (m.serves q p k l)))
     ∙ sum_swap n n (λ p q. length (for_node p (rows t q).out))
 
 moves_next : (rows : ℕ → ℕ → Face) (n t : ℕ) → Meets n (rows t) →
@@ -105,7 +112,8 @@ moves_next rows n t m =
     sum_add n (λ p. moves_before rows p t + moves_in rows p t) (λ p. 1)
     ∙ ap (λ (k : ℕ). k + sum_below n (λ p. 1)) (sum_add n (λ p. moves_before rows p t) (λ p. moves_in rows p t)
     ∙ ap (λ (k : ℕ). sum_below n (λ p. moves_before rows p t) + k) (sum_add n (λ p. length (rows t p).out) (λ p. length (rows t p).due)
-    ∙ ap (λ (k : ℕ). k + sum_below n (λ p. length (rows t p).due)) (sends_in rows n t m) ∙ ap (λ (k : ℕ). in_phase rows n t + k) (takes_in rows n t m)))
+    ∙ ap (λ (k : ℕ). k + sum_below n (λ p. length (rows t p).due)) (sends_in rows n t m)
+    ∙ ap (λ (k : ℕ). in_phase rows n t + k) (takes_in rows n t m)))
     ∙ ap (λ (k : ℕ). sum_below n (λ p. moves_before rows p t) + (in_phase rows n t + in_phase rows n t) + k) (sum_ones n)
 
 no_letters_yet : (rows : ℕ → ℕ → Face) (n : ℕ) → letters_before rows n zero ≡ 0
@@ -117,10 +125,12 @@ add_up m' m i n l' l t nt nt' a b c d = omega arith
 mul_next : (n t : ℕ) → n * suc t ≡ n * t + n
 mul_next n t = omega arith
 
-pub two_each : (rows : ℕ → ℕ → Face) (n : ℕ) → ((t : ℕ) → Meets n (rows t)) → (t : ℕ) → sum_below n (λ p. moves_before rows p t) ≡ 2 * letters_before rows n t + n * t
+pub two_each : (rows : ℕ → ℕ → Face) (n : ℕ) → ((t : ℕ) → Meets n (rows t)) → (t : ℕ) → sum_below n (λ p. moves_before rows p t)
+    ≡ 2 * letters_before rows n t + n * t
 two_each rows n meets zero =
     let a : letters_before rows n zero ≡ 0 = no_letters_yet rows n in
     sum_zero n ∙ (let j : 0 ≡ 2 * letters_before rows n zero + n * 0 = omega (arith, a) in j)
 two_each rows n meets (suc t) =
-    add_up (sum_below n (λ p. moves_before rows p (suc t))) (sum_below n (λ p. moves_before rows p t)) (in_phase rows n t) n (letters_before rows n (suc t)) (letters_before rows n t) t (n * t) (n * suc t)
+    add_up (sum_below n (λ p. moves_before rows p (suc t))) (sum_below n (λ p. moves_before rows p t)) (in_phase rows n t) n
+    (letters_before rows n (suc t)) (letters_before rows n t) t (n * t) (n * suc t)
     (moves_next rows n t (meets t)) (letters_next rows n t) (two_each rows n meets t) (mul_next n t)

@@ -10,7 +10,8 @@ use Rattle.bsp_core.proofs.Ends.{left_falls}
 
 module _ (rows : ℕ → ℕ → Face) (falls : (t : ℕ) → (rows (t + 1) 0).left ≤ (rows t 0).left - 1) where
   next_less : (t k : ℕ) → (rows t 0).left ≤ suc k → (rows (suc t) 0).left ≤ k
-  next_less t k h = let f : (rows (suc t) 0).left ≤ (rows t 0).left - 1 = subst (λ (j : ℕ). (rows j 0).left ≤ (rows t 0).left - 1) (add-one t) (falls t) in omega (arith, f, h)
+  next_less t k h = let f : (rows (suc t) 0).left ≤ (rows t 0).left - 1 = subst (λ (j : ℕ). (rows j 0).left ≤ (rows t 0).left - 1)
+      (add-one t) (falls t) in omega (arith, f, h)
 
   before_next : (t : ℕ) → ((s : ℕ) → s < t → 0 < (rows s 0).left) → (rows t 0).left ≢ 0 → (s : ℕ) → s < suc t → 0 < (rows s 0).left
   before_next t before some s l = elim (cases_eq s t) [
@@ -36,10 +37,12 @@ module _ (rows : ℕ → ℕ → Face) (falls : (t : ℕ) → (rows (t + 1) 0).l
     | inr ne ↦
         let le : end ≤ t = omega (arith, h, ne) in
         let none : (rows t 0).left ≡ 0 = omega (arith, left_falls rows falls end t le, is.0) in
-        ap (λ (z : List _). upto rows p q t ++ for_node q z) ((meets t).done p lp none).0 ∙ append-nil (upto rows p q t) ∙ beyond n p q end t meets lp is le
+        ap (λ (z : List _). upto rows p q t ++ for_node q z) ((meets t).done p lp none).0 ∙ append-nil (upto rows p q t)
+        ∙ beyond n p q end t meets lp is le
   ]
 
-  pub upto_end : (n p q end t : ℕ) → ((t : ℕ) → Meets n (rows t)) → p < n → IsEnd rows end → (rest : List Letter) × (upto rows p q end ≡ upto rows p q t ++ rest)
+  pub upto_end : (n p q end t : ℕ) → ((t : ℕ) → Meets n (rows t)) → p < n → IsEnd rows end → (rest : List Letter)
+      × (upto rows p q end ≡ upto rows p q t ++ rest)
   upto_end n p q end t meets lp is = elim (le_or_more t end) [
     | inl le ↦ upto_more rows p q t end le
     | inr lt ↦ ([], sym (beyond n p q end t meets lp is (omega (arith, lt))) ∙ sym (append-nil (upto rows p q t)))

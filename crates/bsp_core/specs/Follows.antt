@@ -55,32 +55,42 @@ KnowsBy holds views f p = holds f p (views p).state
 -- to a node that waits for one fits, and where all are done, all is the plan's.
 pub record AreLawful {S : Type 0} (rows : ℕ → ℕ → Face) (holds : ℕ → ℕ → S → Type 0) (n : ℕ)
     (acts : ℕ → List Act) (views : ℕ → View S) (sent : ℕ → ℕ → List Letter) : Type 0 where
-  pub at : AllStand rows (KnowsBy holds views) n (λ p. (views p).face) (λ p q. put_to q (acts p)) (λ p q. length (taken_of p (acts q))) (λ p. length (acts p))
+  pub at : AllStand rows (KnowsBy holds views) n (λ p. (views p).face) (λ p q. put_to q (acts p)) (λ p q. length (taken_of p (acts q)))
+      (λ p. length (acts p))
   pub prefix : (p q : ℕ) → p < n → q < n → (t : ℕ) × (rest : List Letter) × (upto rows p q t ≡ put_to q (acts p) ++ rest)
   pub fits : (p q : ℕ) → p < n → q < n → next_of (views q).face ≡ Take p → length (taken_of p (acts q)) < length (sent p q) →
-      (wanted : Wanted) × (rest : List (ℕ × Wanted)) × ((views q).face.due ≡ (p, wanted) ∷ rest) × ((d : Letter) → Fits wanted (get_or (sent p q) (length (taken_of p (acts q))) d))
+      (wanted : Wanted) × (rest : List (ℕ × Wanted)) × ((views q).face.due ≡ (p, wanted) ∷ rest)
+      × ((d : Letter) → Fits wanted (get_or (sent p q) (length (taken_of p (acts q))) d))
   pub over : ((p : ℕ) → p < n → next_of (views p).face ≡ Done) → (t : ℕ)
-      × IsOver rows (KnowsBy holds views) n t (λ p. (views p).face) (λ p q. put_to q (acts p)) (λ p q. length (taken_of p (acts q))) (λ p. length (acts p))
+      × IsOver rows (KnowsBy holds views) n t (λ p. (views p).face) (λ p q. put_to q (acts p)) (λ p q. length (taken_of p (acts q)))
+      (λ p. length (acts p))
       × ((p q : ℕ) → p < n → q < n → (sent p q ≡ upto rows p q t) × (taken_of p (acts q) ≡ upto rows p q t))
 
 -- A node that was driven from x to y: what it did, of which the letters put begin with those sent, and the letters taken are these.
-pub record WasDriven {S : Type 0} (works : View S → View S → Type 0) (p : ℕ) (x y : View S) (sent taken : ℕ → ℕ → List Letter) : Type 0 where
-  pub acts : List Act
-  pub runs : Follows works x acts y
-  pub put : (q : ℕ) → (rest : List Letter) × (put_to q acts ≡ sent p q ++ rest)
-  pub took : (q : ℕ) → taken q p ≡ taken_of q acts
+pub record WasDriven {S : Type 0} (works : View S → View S → Type 0) (p : ℕ) (x y : View S) (sent taken : ℕ → ℕ → List Letter) : Type 0
+  where
+    pub acts : List Act
+    pub runs : Follows works x acts y
+    pub put : (q : ℕ) → (rest : List Letter) × (put_to q acts ≡ sent p q ++ rest)
+    pub took : (q : ℕ) → taken q p ≡ taken_of q acts
 
-abbrev pub AllDriven : {S : Type 0} → (View S → View S → Type 0) → List (View S) → List (View S) → (ℕ → ℕ → List Letter) → (ℕ → ℕ → List Letter) → Type 0
-AllDriven {S} works before after sent taken = (p : ℕ) (x y : View S) → slice_get before p ≡ Some x → slice_get after p ≡ Some y → WasDriven works p x y sent taken
+abbrev pub AllDriven : {S : Type 0} → (View S → View S → Type 0) → List (View S) → List (View S) → (ℕ → ℕ → List Letter)
+    → (ℕ → ℕ → List Letter) → Type 0
+AllDriven {S} works before after sent taken = (p : ℕ) (x y : View S) → slice_get before p ≡ Some x → slice_get after p ≡ Some y
+    → WasDriven works p x y sent taken
 
 abbrev pub ArePrefixes : ℕ → (ℕ → ℕ → List Letter) → (ℕ → ℕ → List Letter) → Type 0
 ArePrefixes n taken sent = (p q : ℕ) → p < n → q < n → (rest : List Letter) × (sent p q ≡ taken p q ++ rest)
 
--- What follows for the pairs: what was sent is a prefix of the plan's letters, the next letter fits, and where all are done, all is the plan's.
-pub record AreInLockstep {S : Type 0} (rows : ℕ → ℕ → Face) (holds : ℕ → ℕ → S → Type 0) (n : ℕ) (after : List (View S)) (sent taken : ℕ → ℕ → List Letter) : Type 0 where
+-- What follows for the pairs: what was sent is a prefix of the plan's letters, the next letter fits, and where all are done, all is the
+-- plan's.
+pub record AreInLockstep {S : Type 0} (rows : ℕ → ℕ → Face) (holds : ℕ → ℕ → S → Type 0) (n : ℕ) (after : List (View S)) (sent taken : ℕ
+    → ℕ → List Letter) : Type 0 where
   pub prefix : (p q : ℕ) → p < n → q < n → (t : ℕ) × (rest : List Letter) × (upto rows p q t ≡ sent p q ++ rest)
-  pub fits : (p q : ℕ) → p < n → q < n → (y : View S) → slice_get after q ≡ Some y → next_of y.face ≡ Take p → length (taken p q) < length (sent p q) →
-      (wanted : Wanted) × (rest : List (ℕ × Wanted)) × (y.face.due ≡ (p, wanted) ∷ rest) × ((d : Letter) → Fits wanted (get_or (sent p q) (length (taken p q)) d))
+  pub fits : (p q : ℕ) → p < n → q < n → (y : View S) → slice_get after q ≡ Some y → next_of y.face ≡ Take p
+      → length (taken p q) < length (sent p q) →
+      (wanted : Wanted) × (rest : List (ℕ × Wanted)) × (y.face.due ≡ (p, wanted) ∷ rest)
+      × ((d : Letter) → Fits wanted (get_or (sent p q) (length (taken p q)) d))
   pub over : ((p : ℕ) (y : View S) → slice_get after p ≡ Some y → next_of y.face ≡ Done) → (t : ℕ) × IsEnd rows t
       × ((p q : ℕ) → p < n → q < n → (sent p q ≡ upto rows p q t) × (taken p q ≡ upto rows p q t))
       × ((p : ℕ) (y : View S) → p < n → slice_get after p ≡ Some y → (y.face ≡ rows t p) × holds t p y.state)

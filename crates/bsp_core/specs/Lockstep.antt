@@ -37,7 +37,8 @@ pub record StandsAt (rows : ℕ → ℕ → Face) (n p f : ℕ) (v : Face) (sent
 
 -- each node below n stands at its place in the plan, and knows there what is to be known
 abbrev pub AllStand : (ℕ → ℕ → Face) → (ℕ → ℕ → Type 0) → ℕ → (ℕ → Face) → (ℕ → ℕ → List Letter) → (ℕ → ℕ → ℕ) → (ℕ → ℕ) → Type 0
-AllStand rows knows n faces sent taken moves = (p : ℕ) → p < n → (f : ℕ) × StandsAt rows n p f (faces p) (sent p) (λ q. taken q p) (moves p) × knows f p
+AllStand rows knows n faces sent taken moves = (p : ℕ) → p < n → (f : ℕ) × StandsAt rows n p f (faces p) (sent p) (λ q. taken q p)
+    (moves p) × knows f p
 
 -- phase t is the plan's end: no phase is left, and before it some were
 abbrev pub IsEnd : (ℕ → ℕ → Face) → ℕ → Type 0
@@ -63,7 +64,8 @@ AreBelow n [] = Unit {0}
 AreBelow n (x ∷ xs) = (x < n) × AreBelow n xs
 
 -- The end of a plan, at its phase t: what was sent and taken, what was done, and where the nodes are.
-pub record IsOver (rows : ℕ → ℕ → Face) (knows : ℕ → ℕ → Type 0) (n t : ℕ) (faces : ℕ → Face) (sent : ℕ → ℕ → List Letter) (taken : ℕ → ℕ → ℕ) (moves : ℕ → ℕ) : Type 0 where
+pub record IsOver (rows : ℕ → ℕ → Face) (knows : ℕ → ℕ → Type 0) (n t : ℕ) (faces : ℕ → Face) (sent : ℕ → ℕ → List Letter) (taken : ℕ → ℕ
+    → ℕ) (moves : ℕ → ℕ) : Type 0 where
   pub end : IsEnd rows t
   pub sent_is : (p q : ℕ) → p < n → q < n → sent p q ≡ upto rows p q t
   pub taken_is : (p q : ℕ) → p < n → q < n → taken p q ≡ length (upto rows p q t)

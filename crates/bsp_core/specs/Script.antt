@@ -1,6 +1,7 @@
 -- Who moves: the moves that turns make in a plan, by the plan alone.
 use Rattle.std.proofs.Common.{suc, zero}
-use Rattle.std.specs.Prelude.{◌≡◌, ◌==◌, ℕ, nat_lt, ◌+◌, ◌-◌, ◌%◌, Bool, true, false, List, [], ◌∷◌, ◌++◌, if◌then◌else◌, length, drop, Option, Some, None}
+use Rattle.std.specs.Prelude.{◌≡◌, ◌==◌, ℕ, nat_lt, ◌+◌, ◌-◌, ◌%◌, Bool, true, false, List, [], ◌∷◌, ◌++◌, if◌then◌else◌, length, drop}
+use Rattle.std.specs.Prelude.{Option, Some, None}
 use Rattle.chaos_letter.specs.declared.letter.Letter.{Letter}
 use Rattle.chaos_letter.specs.declared.wanted.Wanted.{Wanted}
 use Rattle.bsp_core.specs.declared.phased.Want.{Want}

@@ -39,7 +39,8 @@ abbrev pub Knows : {S : Type 0} → (ℕ → ℕ → S → Type 0) → List (Vie
 Knows {S} holds views f p = (v : View S) → slice_get views p ≡ Some v → holds f p v.state
 
 -- the World is at its place in the plan
-pub record ListsInLockstep {S : Type 0} (rows : ℕ → ℕ → Face) (holds : ℕ → ℕ → S → Type 0) (n : ℕ) (views : List (View S)) (sent : List (List Letter)) (taken : List ℕ) (moved : List ℕ) : Type 0 where
+pub record ListsInLockstep {S : Type 0} (rows : ℕ → ℕ → Face) (holds : ℕ → ℕ → S → Type 0) (n : ℕ) (views : List (View S))
+    (sent : List (List Letter)) (taken : List ℕ) (moved : List ℕ) : Type 0 where
   pub views_len : length views ≡ n
   pub sent_len : length sent ≡ n * n
   pub taken_len : length taken ≡ n * n
@@ -50,9 +51,11 @@ abbrev pub IsInLockstep : {N S : Type 0} → (N → View S) → (ℕ → ℕ →
 IsInLockstep view rows holds n w = ListsInLockstep rows holds n (map view w.nodes) w.sent w.taken w.moved
 
 -- the World is at the plan's end: no order of turns leads to another
-pub record HasEnded {N S : Type 0} (view : N → View S) (rows : ℕ → ℕ → Face) (holds : ℕ → ℕ → S → Type 0) (n : ℕ) (w : WorldState N) : Type 0 where
+pub record HasEnded {N S : Type 0} (view : N → View S) (rows : ℕ → ℕ → Face) (holds : ℕ → ℕ → S → Type 0) (n : ℕ)
+    (w : WorldState N) : Type 0 where
   pub phases : ℕ
-  pub is : IsOver rows (Knows holds (map view w.nodes)) n phases (faces_of (rows 0 0) (map view w.nodes)) (sent_of n w.sent) (taken_of_pair n w.taken) (moves_of w.moved)
+  pub is : IsOver rows (Knows holds (map view w.nodes)) n phases (faces_of (rows 0 0) (map view w.nodes)) (sent_of n w.sent)
+      (taken_of_pair n w.taken) (moves_of w.moved)
   pub moves : length w.moved ≡ sum_below n (moves_of w.moved)
 
 -- a number that falls at each action
@@ -85,10 +88,12 @@ IsStill view p w = Waits view p w ⊎ IsDone view p w
 -- The next action of node p, which is v and becomes w.
 pub data Acted {N S : Type 0} (view : N → View S) (p : ℕ) (v w : N) (old new : WorldState N) : Type 0 where
   Sends : (to : ℕ) (x : Letter) → next_of (view v).face ≡ Send to → Posts (view v) x (view w) → new.taken ≡ old.taken →
-      new.sent ≡ slice_set old.sent (p * length old.nodes + to) (sent_of (length old.nodes) old.sent p to ++ x ∷ []) → Acted view p v w old new
+      new.sent ≡ slice_set old.sent (p * length old.nodes + to) (sent_of (length old.nodes) old.sent p to ++ x ∷ [])
+      → Acted view p v w old new
   TakesUp : (from : ℕ) (x : Letter) → next_of (view v).face ≡ Take from → Takes (view v) x (view w) → new.sent ≡ old.sent →
       slice_get (sent_of (length old.nodes) old.sent from p) (taken_of_pair (length old.nodes) old.taken from p) ≡ Some x →
-      new.taken ≡ slice_set old.taken (from * length old.nodes + p) (taken_of_pair (length old.nodes) old.taken from p + 1) → Acted view p v w old new
+      new.taken ≡ slice_set old.taken (from * length old.nodes + p) (taken_of_pair (length old.nodes) old.taken from p + 1)
+      → Acted view p v w old new
   Works : next_of (view v).face ≡ Work → new.sent ≡ old.sent → new.taken ≡ old.taken → Acted view p v w old new
 
 -- a turn of p that moved: its next action, and no other node and no other list changes
@@ -153,7 +158,8 @@ drawn n s = (s / 2 ^ 33) % n
 abbrev pub Draws : {N S : Type 0} → (N → View S) → ℕ → List ℕ → WorldState N → ℕ → WorldState N → Type 0
 Draws view s [] old s' new = (s' ≡ s) × (new ≡ old)
 Draws {N} view s (p ∷ ps) old s' new =
-    (mid : WorldState N) × IsFirst view (drawn (length old.nodes) (next_seed s)) p old × Moves view p old mid × Draws view (next_seed s) ps mid s' new
+    (mid : WorldState N) × IsFirst view (drawn (length old.nodes) (next_seed s)) p old × Moves view p old mid
+    × Draws view (next_seed s) ps mid s' new
 
 -- all nodes are done
 abbrev pub AreDone : {N S : Type 0} → (N → View S) → List N → Type 0
@@ -161,23 +167,32 @@ AreDone {N} {S} view nodes = (p : ℕ) (v : N) → slice_get nodes p ≡ Some v 
 
 -- the nodes are those of the plan's first row
 abbrev pub Begins : {S : Type 0} → (ℕ → ℕ → Face) → (ℕ → ℕ → S → Type 0) → ℕ → List (View S) → Type 0
-Begins {S} rows holds n views = (length views ≡ n) × ((p : ℕ) (v : View S) → slice_get views p ≡ Some v → (v.face ≡ rows 0 p) × holds 0 p v.state)
+Begins {S} rows holds n views = (length views ≡ n) × ((p : ℕ) (v : View S) → slice_get views p ≡ Some v → (v.face ≡ rows 0 p)
+    × holds 0 p v.state)
 
 -- the nodes are those of some plan's first row
-abbrev pub AreTogether : {N S P : Type 0} → (N → View S) → (P → Type 0) → (P → ℕ) → (P → ℕ → ℕ → Face) → (P → ℕ → ℕ → S → Type 0) → List N → Type 0
-AreTogether {N} {S} {P} view is count rows holds nodes = (plan : P) × is plan × Begins (rows plan) (holds plan) (count plan) (map view nodes)
+abbrev pub AreTogether : {N S P : Type 0} → (N → View S) → (P → Type 0) → (P → ℕ) → (P → ℕ → ℕ → Face) → (P → ℕ → ℕ → S → Type 0) → List N
+    → Type 0
+AreTogether {N} {S} {P} view is count rows holds nodes = (plan : P) × is plan × Begins (rows plan) (holds plan) (count plan)
+    (map view nodes)
 
 -- a World of these nodes stands in whatever plan they begin
-abbrev pub StandsWhereItBegan : {N S P : Type 0} → (N → View S) → (P → Type 0) → (P → ℕ) → (P → ℕ → ℕ → Face) → (P → ℕ → ℕ → S → Type 0) → List N → WorldState N → Type 0
+abbrev pub StandsWhereItBegan : {N S P : Type 0} → (N → View S) → (P → Type 0) → (P → ℕ) → (P → ℕ → ℕ → Face) → (P → ℕ → ℕ → S → Type 0)
+    → List N → WorldState N → Type 0
 StandsWhereItBegan {N} {S} {P} view is count rows holds nodes w =
-    (plan : P) → is plan → Begins (rows plan) (holds plan) (count plan) (map view nodes) → IsInLockstep view (rows plan) (holds plan) (count plan) w
+    (plan : P) → is plan → Begins (rows plan) (holds plan) (count plan) (map view nodes) → IsInLockstep view (rows plan) (holds plan)
+    (count plan) w
 
 -- whatever plan the World stood in, it stands in
-abbrev pub KeepsLockstep : {N S P : Type 0} → (N → View S) → (P → Type 0) → (P → ℕ) → (P → ℕ → ℕ → Face) → (P → ℕ → ℕ → S → Type 0) → WorldState N → WorldState N → Type 0
+abbrev pub KeepsLockstep : {N S P : Type 0} → (N → View S) → (P → Type 0) → (P → ℕ) → (P → ℕ → ℕ → Face) → (P → ℕ → ℕ → S → Type 0)
+    → WorldState N → WorldState N → Type 0
 KeepsLockstep {N} {S} {P} view is count rows holds old new =
-    (plan : P) → is plan → IsInLockstep view (rows plan) (holds plan) (count plan) old → IsInLockstep view (rows plan) (holds plan) (count plan) new
+    (plan : P) → is plan → IsInLockstep view (rows plan) (holds plan) (count plan) old → IsInLockstep view (rows plan) (holds plan)
+    (count plan) new
 
 -- whatever plan the World stood in, it is at the end of
-abbrev pub Ends : {N S P : Type 0} → (N → View S) → (P → Type 0) → (P → ℕ) → (P → ℕ → ℕ → Face) → (P → ℕ → ℕ → S → Type 0) → WorldState N → WorldState N → Type 0
+abbrev pub Ends : {N S P : Type 0} → (N → View S) → (P → Type 0) → (P → ℕ) → (P → ℕ → ℕ → Face) → (P → ℕ → ℕ → S → Type 0) → WorldState N
+    → WorldState N → Type 0
 Ends {N} {S} {P} view is count rows holds old new =
-    (plan : P) → is plan → IsInLockstep view (rows plan) (holds plan) (count plan) old → HasEnded view (rows plan) (holds plan) (count plan) new
+    (plan : P) → is plan → IsInLockstep view (rows plan) (holds plan) (count plan) old
+    → HasEnded view (rows plan) (holds plan) (count plan) new

@@ -1,6 +1,7 @@
 //! The three actions of a turn, over the lists of a World.
 
-ghost use Rattle.std.specs.Prelude.{◌≡◌, ℕ, ◌+◌, ◌<◌, ◌≤◌, List, [], ◌∷◌, ◌++◌, length, map, OnOk, OnErr, slice_get, slice_set, vec_capacity, vec_len};
+ghost use Rattle.std.specs.Prelude.{◌≡◌, ℕ, ◌+◌, ◌<◌, ◌≤◌, List, [], ◌∷◌, ◌++◌, length, map, OnOk, OnErr, slice_get, slice_set};
+ghost use Rattle.std.specs.Prelude.{vec_capacity, vec_len};
 ghost use Rattle.std.proofs.Common.{get_or};
 ghost use Rattle.bsp_core.specs.Views.{View, next_of, Posts, Takes, WorksFor, Below};
 ghost use Rattle.chaos_letter.specs.Fits.{Fits};

@@ -1,6 +1,8 @@
-ghost use Rattle.std.specs.Prelude.{◌≡◌, ℕ, ◌+◌, ◌*◌, ◌<◌, ◌≤◌, List, [], ◌∷◌, ◌++◌, length, take, OnOk, OnErr, IfOk, ◌%◌, slice_index, replicate, map};
+ghost use Rattle.std.specs.Prelude.{◌≡◌, ℕ, ◌+◌, ◌*◌, ◌<◌, ◌≤◌, List, [], ◌∷◌, ◌++◌, length, take, OnOk, OnErr, IfOk, ◌%◌, slice_index};
+ghost use Rattle.std.specs.Prelude.{replicate, map};
 ghost use Rattle.bsp_core.specs.Lists.{items_of};
-ghost use Rattle.bsp_core.specs.Turns.{WorldState, TurnIs, IsUnchanged, IsStill, AreDone, total, AreTogether, StandsWhereItBegan, KeepsLockstep, Ends, Moves, Plays, Stops, nodes_below, rounds, IsFirst, Draws, next_seed, drawn};
+ghost use Rattle.bsp_core.specs.Turns.{WorldState, TurnIs, IsUnchanged, IsStill, AreDone, total, AreTogether, StandsWhereItBegan};
+ghost use Rattle.bsp_core.specs.Turns.{KeepsLockstep, Ends, Moves, Plays, Stops, nodes_below, rounds, IsFirst, Draws, next_seed, drawn};
 ghost use Rattle.bsp_core.specs.Script.{MovesBy, MovesDrawn};
 
 use crate::turns::turn_of;
@@ -30,9 +32,16 @@ impl<N: Phased> Model for World<N> {
 
     ghost Value = { WorldState N };
 
-    ghost view = { λ a. record { nodes = a.nodes.items; sent = map (λ v. v.items) a.sent.items; taken = a.taken.items; moved = a.moved.items } };
+    ghost view = { λ a. record {
+      nodes = a.nodes.items;
+      sent = map (λ v. v.items) a.sent.items;
+      taken = a.taken.items;
+      moved = a.moved.items;
+    } };
 
-    ghost invariant = { λ a. (length a.nodes.items ≤ 16) × ((plan : N.Plan) × N.IsPlan plan × IsInLockstep N.view (N.rows plan) (N.holds plan) (N.count plan) (record { nodes = a.nodes.items; sent = map (λ v. v.items) a.sent.items; taken = a.taken.items; moved = a.moved.items })) };
+    ghost invariant = { λ a. (length a.nodes.items ≤ 16)
+        × ((plan : N.Plan) × N.IsPlan plan × IsInLockstep N.view (N.rows plan) (N.holds plan) (N.count plan)
+        (record { nodes = a.nodes.items; sent = map (λ v. v.items) a.sent.items; taken = a.taken.items; moved = a.moved.items })) };
 }
 
 /// So many empty lists.

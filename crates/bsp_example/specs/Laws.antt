@@ -1,5 +1,6 @@
 -- The rows of the voter's plan meet, and its work goes from row to row.
-use Rattle.std.proofs.Common.{◌≡◌, ◌≢◌, ◌==◌, ℕ, suc, zero, ◌+◌, ◌-◌, ◌<◌, ◌≤◌, Bool, true, false, List, [], ◌∷◌, ◌++◌, if◌then◌else◌, ◌⊎◌, inl, inr, length, map, arith, refl, sym, ◌∙◌, ap, subst, add-one, slice_get, Some, take, get_or}
+use Rattle.std.proofs.Common.{◌≡◌, ◌≢◌, ◌==◌, ℕ, suc, zero, ◌+◌, ◌-◌, ◌<◌, ◌≤◌, Bool, true, false, List, [], ◌∷◌, ◌++◌, if◌then◌else◌, ◌⊎◌}
+use Rattle.std.proofs.Common.{inl, inr, length, map, arith, refl, sym, ◌∙◌, ap, subst, add-one, slice_get, Some, take, get_or}
 use Rattle.std.proofs.lemmas.List.{map-append, length-map, map-id}
 use Rattle.std.proofs.Math.Seq.{take-suc}
 use Rattle.bsp_core.specs.Turns.{Begins}
@@ -10,9 +11,12 @@ use Rattle.chaos_letter.specs.declared.wanted.Wanted.{Wanted}
 use Rattle.chaos_letter.specs.Fits.{Fits}
 use Rattle.bsp_core.specs.Views.{Face, View, Ascends, Meets, Serves, for_node, ready, nodes_in}
 use Rattle.bsp_core.specs.Others.{others, each}
-use Rattle.bsp_core.proofs.Everyone.{others_ascend, nodes_each, all_serves, each_none, each_one, serves_by, incoming_all, others_at, others_by}
+use Rattle.bsp_core.proofs.Everyone.{others_ascend, nodes_each, all_serves, each_none, each_one, serves_by, incoming_all, others_at}
+use Rattle.bsp_core.proofs.Everyone.{others_by}
 use Rattle.bsp_core.proofs.Places.{for_node_same, for_node_other}
-use Rattle.bsp_example.specs.Rows.{VoterState, VoterPlan, either, any_below, flag_of, any_flag, voter_letter, voter_wanted, flag_in, heard, all_of, to_whom, from_whom, voter_out, voter_due, face_by, new_left, new_flag, left_at, flag_at, voter_row, voter_holds}
+use Rattle.bsp_example.specs.Rows.{VoterState, VoterPlan, either, any_below, flag_of, any_flag, voter_letter, voter_wanted, flag_in, heard}
+use Rattle.bsp_example.specs.Rows.{all_of, to_whom, from_whom, voter_out, voter_due, face_by, new_left, new_flag, left_at, flag_at}
+use Rattle.bsp_example.specs.Rows.{voter_row, voter_holds}
 
 if_is : {X : Type 0} (a b : ℕ) (x y : X) → a ≡ b → (if a == b then x else y) ≡ x
 if_is a b x y e = grind (arith, nat_tests)
@@ -21,14 +25,34 @@ if_not : {X : Type 0} (a b : ℕ) (x y : X) → a ≢ b → (if a == b then x el
 if_not a b x y e = grind (arith, nat_tests)
 
 voter_fits : (left : ℕ) (flag : Bool) → Fits (voter_wanted left) (voter_letter left flag)
-voter_fits left true = record { kind = refl; execution = refl; site = refl; count = record { groups = (2, refl); least = omega arith; most = omega arith } }
-voter_fits left false = record { kind = refl; execution = refl; site = refl; count = record { groups = (1, refl); least = omega arith; most = omega arith } }
+voter_fits left true = record {
+  kind = refl;
+  execution = refl;
+  site = refl;
+  count = record {
+    groups = (2, refl);
+    least = omega arith;
+    most = omega arith;
+  };
+}
+voter_fits left false = record {
+  kind = refl;
+  execution = refl;
+  site = refl;
+  count = record {
+    groups = (1, refl);
+    least = omega arith;
+    most = omega arith;
+  };
+}
 
 -- whom a node sends to and takes from
 to_ascends : (left : ℕ) (all : Bool) (me n : ℕ) → me < n → Ascends me n 0 (to_whom left all me n)
 to_ascends left all me n l = elim (cases_eq left 0) [
-  | inl e ↦ subst (λ (z : List ℕ). Ascends me n 0 z) (sym (if_is left 0 [] (if all then others me n else if me == 0 then [] else 0 ∷ []) e)) tt
-  | inr e ↦ subst (λ (z : List ℕ). Ascends me n 0 z) (sym (if_not left 0 [] (if all then others me n else if me == 0 then [] else 0 ∷ []) e)) (inner all)
+  | inl e ↦ subst (λ (z : List ℕ). Ascends me n 0 z)
+      (sym (if_is left 0 [] (if all then others me n else if me == 0 then [] else 0 ∷ []) e)) tt
+  | inr e ↦ subst (λ (z : List ℕ). Ascends me n 0 z)
+      (sym (if_not left 0 [] (if all then others me n else if me == 0 then [] else 0 ∷ []) e)) (inner all)
 ] where
   inner : (b : Bool) → Ascends me n 0 (if b then others me n else if me == 0 then [] else 0 ∷ [])
   inner true = others_ascend me n n (omega arith)
@@ -39,48 +63,64 @@ to_ascends left all me n l = elim (cases_eq left 0) [
 
 from_ascends : (left : ℕ) (all : Bool) (me n : ℕ) → Ascends me n 0 (from_whom left all me n)
 from_ascends left all me n = elim (cases_eq left 0) [
-  | inl e ↦ subst (λ (z : List ℕ). Ascends me n 0 z) (sym (if_is left 0 [] (if all then others me n else if me == 0 then others 0 n else []) e)) tt
-  | inr e ↦ subst (λ (z : List ℕ). Ascends me n 0 z) (sym (if_not left 0 [] (if all then others me n else if me == 0 then others 0 n else []) e)) (inner all)
+  | inl e ↦ subst (λ (z : List ℕ). Ascends me n 0 z)
+      (sym (if_is left 0 [] (if all then others me n else if me == 0 then others 0 n else []) e)) tt
+  | inr e ↦ subst (λ (z : List ℕ). Ascends me n 0 z)
+      (sym (if_not left 0 [] (if all then others me n else if me == 0 then others 0 n else []) e)) (inner all)
 ] where
   inner : (b : Bool) → Ascends me n 0 (if b then others me n else if me == 0 then others 0 n else [])
   inner true = others_ascend me n n (omega arith)
   inner false = elim (cases_eq me 0) [
-    | inl i ↦ subst (λ (z : List ℕ). Ascends me n 0 z) (sym (if_is me 0 (others 0 n) [] i)) (subst (λ (k : ℕ). Ascends k n 0 (others 0 n)) (sym i) (others_ascend 0 n n (omega arith)))
+    | inl i ↦ subst (λ (z : List ℕ). Ascends me n 0 z) (sym (if_is me 0 (others 0 n) [] i)) (subst (λ (k : ℕ). Ascends k n 0 (others 0 n))
+        (sym i) (others_ascend 0 n n (omega arith)))
     | inr i ↦ subst (λ (z : List ℕ). Ascends me n 0 z) (sym (if_not me 0 (others 0 n) [] i)) tt
   ]
 
 pub out_ascends : (left : ℕ) (all flag : Bool) (me n : ℕ) → me < n → Ascends me n 0 (nodes_in (voter_out left all flag me n))
-out_ascends left all flag me n l = subst (λ (z : List ℕ). Ascends me n 0 z) (sym (nodes_each (λ q. voter_letter left flag) (to_whom left all me n))) (to_ascends left all me n l)
+out_ascends left all flag me n l = subst (λ (z : List ℕ). Ascends me n 0 z)
+    (sym (nodes_each (λ q. voter_letter left flag) (to_whom left all me n))) (to_ascends left all me n l)
 
 pub due_ascends : (left : ℕ) (all : Bool) (me n : ℕ) → Ascends me n 0 (nodes_in (voter_due left all me n))
-due_ascends left all me n = subst (λ (z : List ℕ). Ascends me n 0 z) (sym (nodes_each (λ q. voter_wanted left) (from_whom left all me n))) (from_ascends left all me n)
+due_ascends left all me n = subst (λ (z : List ℕ). Ascends me n 0 z) (sym (nodes_each (λ q. voter_wanted left) (from_whom left all me n)))
+    (from_ascends left all me n)
 
 -- what p wants of q is what q sends to p
-voter_serves : (left : ℕ) (all flag : Bool) (n p q : ℕ) → p < n → q < n → Serves (for_node p (voter_due left all q n)) (for_node q (voter_out left all flag p n))
+voter_serves : (left : ℕ) (all flag : Bool) (n p q : ℕ) → p < n → q < n → Serves (for_node p (voter_due left all q n))
+    (for_node q (voter_out left all flag p n))
 voter_serves left all flag n p q lp lq =
     let w : ℕ → Wanted = λ r. voter_wanted left in
     let x : ℕ → Letter = λ r. voter_letter left flag in
     let asks : List ℕ → List Wanted = λ z. for_node p (each w z) in
     let gives : List ℕ → List Letter = λ z. for_node q (each x z) in
-    let inner : (b : Bool) → Serves (asks (if b then others q n else if q == 0 then others 0 n else [])) (gives (if b then others p n else if p == 0 then [] else 0 ∷ [])) = λ b. elim b as (λ c. Serves (asks (if c then others q n else if q == 0 then others 0 n else [])) (gives (if c then others p n else if p == 0 then [] else 0 ∷ []))) [
+    let inner : (b : Bool) → Serves (asks (if b then others q n else if q == 0 then others 0 n else []))
+    (gives (if b then others p n else if p == 0 then [] else 0 ∷ [])) =
+    λ b. elim b as (λ c. Serves (asks (if c then others q n else if q == 0 then others 0 n else []))
+    (gives (if c then others p n else if p == 0 then [] else 0 ∷ []))) [
       | true ↦ all_serves w x n p q lp lq (λ ne. voter_fits left flag)
       | false ↦ elim (cases_eq q 0) [
         | inl a ↦ elim (cases_eq p 0) [
           | inl c ↦ serves_by (asks (if q == 0 then others 0 n else [])) [] (gives (if p == 0 then [] else 0 ∷ [])) []
               (ap asks (if_is q 0 (others 0 n) [] a) ∙ each_none w 0 p n (inl c)) (ap gives (if_is p 0 [] (0 ∷ []) c)) tt
-          | inr c ↦ serves_by (asks (if q == 0 then others 0 n else [])) (voter_wanted left ∷ []) (gives (if p == 0 then [] else 0 ∷ [])) (voter_letter left flag ∷ [])
-              (ap asks (if_is q 0 (others 0 n) [] a) ∙ each_one w 0 p n c lp) (ap gives (if_not p 0 [] (0 ∷ []) c) ∙ for_node_same q 0 (voter_letter left flag) [] a) (voter_fits left flag)
+          | inr c ↦ serves_by (asks (if q == 0 then others 0 n else [])) (voter_wanted left ∷ []) (gives (if p == 0 then [] else 0 ∷ []))
+              (voter_letter left flag ∷ [])
+              (ap asks (if_is q 0 (others 0 n) [] a) ∙ each_one w 0 p n c lp) (ap gives (if_not p 0 [] (0 ∷ []) c)
+              ∙ for_node_same q 0 (voter_letter left flag) [] a) (voter_fits left flag)
         ]
         | inr a ↦ serves_by (asks (if q == 0 then others 0 n else [])) [] (gives (if p == 0 then [] else 0 ∷ [])) []
             (ap asks (if_not q 0 (others 0 n) [] a))
-            (elim (cases_eq p 0) [ inl c ↦ ap gives (if_is p 0 [] (0 ∷ []) c) | inr c ↦ ap gives (if_not p 0 [] (0 ∷ []) c) ∙ for_node_other q 0 (voter_letter left flag) [] a ]) tt
+            (elim (cases_eq p 0) [
+              | inl c ↦ ap gives (if_is p 0 [] (0 ∷ []) c)
+              | inr c ↦ ap gives (if_not p 0 [] (0 ∷ []) c)
+                  ∙ for_node_other q 0 (voter_letter left flag) [] a
+            ]) tt
       ]
     ] in
     elim (cases_eq left 0) [
       | inl e ↦ serves_by (asks (from_whom left all q n)) [] (gives (to_whom left all p n)) []
           (ap asks (if_is left 0 [] (if all then others q n else if q == 0 then others 0 n else []) e))
           (ap gives (if_is left 0 [] (if all then others p n else if p == 0 then [] else 0 ∷ []) e)) tt
-      | inr e ↦ serves_by (asks (from_whom left all q n)) (asks (if all then others q n else if q == 0 then others 0 n else [])) (gives (to_whom left all p n)) (gives (if all then others p n else if p == 0 then [] else 0 ∷ []))
+      | inr e ↦ serves_by (asks (from_whom left all q n)) (asks (if all then others q n else if q == 0 then others 0 n else []))
+          (gives (to_whom left all p n)) (gives (if all then others p n else if p == 0 then [] else 0 ∷ []))
           (ap asks (if_not left 0 [] (if all then others q n else if q == 0 then others 0 n else []) e))
           (ap gives (if_not left 0 [] (if all then others p n else if p == 0 then [] else 0 ∷ []) e)) (inner all)
     ]
@@ -99,7 +139,8 @@ voter_meets plan t =
       due = λ p l. due_ascends left all p n;
       serves = λ p q lp lq. voter_serves left all (flag_at plan t p) n p q lp lq;
       done = λ p l z. (
-        ap (each (λ q. voter_letter left (flag_at plan t p))) (if_is left 0 [] (if all then others p n else if p == 0 then [] else 0 ∷ []) z),
+        ap (each (λ q. voter_letter left (flag_at plan t p))) (if_is left 0 [] (if all then others p n else if p == 0 then [] else 0 ∷ [])
+            z),
         ap (each (λ q. voter_wanted left)) (if_is left 0 [] (if all then others p n else if p == 0 then others 0 n else []) z),
       );
     }
@@ -141,13 +182,16 @@ heard_more : (f : ℕ → Bool) (own : Bool) (p k : ℕ) → k ≢ p →
     heard own (map (λ q. voter_letter 3 (f q)) (others p (suc k))) ≡ either (heard own (map (λ q. voter_letter 3 (f q)) (others p k))) (f k)
 heard_more f own p k e =
     let x : ℕ → Letter = λ q. voter_letter 3 (f q) in
-    ap (λ (z : List ℕ). heard own (map x z)) (others_by p k e) ∙ ap (heard own) (map-append x (others p k) (k ∷ [])) ∙ heard_last own (map x (others p k)) (x k)
+    ap (λ (z : List ℕ). heard own (map x z)) (others_by p k e) ∙ ap (heard own) (map-append x (others p k) (k ∷ []))
+    ∙ heard_last own (map x (others p k)) (x k)
     ∙ ap (either (heard own (map x (others p k)))) (flag_told 3 (f k))
 
-heard_below : (f : ℕ → Bool) (own : Bool) (p k : ℕ) → k ≤ p → heard own (map (λ q. voter_letter 3 (f q)) (others p k)) ≡ either own (any_below k f)
+heard_below : (f : ℕ → Bool) (own : Bool) (p k : ℕ) → k ≤ p → heard own (map (λ q. voter_letter 3 (f q)) (others p k))
+    ≡ either own (any_below k f)
 heard_below f own p zero l = either_false own
 heard_below f own p (suc k) l =
-    heard_more f own p k (λ z. absurd (omega arith)) ∙ ap (λ (z : Bool). either z (f k)) (heard_below f own p k (omega arith)) ∙ either_assoc own (any_below k f) (f k)
+    heard_more f own p k (λ z. absurd (omega arith)) ∙ ap (λ (z : Bool). either z (f k)) (heard_below f own p k (omega arith))
+    ∙ either_assoc own (any_below k f) (f k)
 
 heard_all : (f : ℕ → Bool) (p k : ℕ) → p < k → heard (f p) (map (λ q. voter_letter 3 (f q)) (others p k)) ≡ any_below k f
 heard_all f p zero l = absurd (omega arith)
@@ -163,7 +207,8 @@ worked v flag = face_by v.count v.me (new_left v.left flag) (all_of (new_left v.
 
 told_all : (plan : VoterPlan) (p : ℕ) → p < length plan → heard (flag_of plan p) (ready (voter_row plan 0) p).got ≡ any_flag plan
 told_all plan p l =
-    ap (heard (flag_of plan p)) (incoming_all (voter_row plan 0) (λ q. voter_wanted 3) (λ q. voter_letter 3 (flag_of plan q)) p (length plan)
+    ap (heard (flag_of plan p)) (incoming_all (voter_row plan 0) (λ q. voter_wanted 3) (λ q. voter_letter 3 (flag_of plan q)) p
+    (length plan)
     (λ q k ne. each_one (λ r. voter_letter 3 (flag_of plan q)) q p (length plan) (λ z. ne (sym z)) l))
     ∙ heard_all (flag_of plan) p (length plan) l
 
@@ -195,33 +240,31 @@ left_next plan (suc (suc (suc t))) h = absurd (h refl)
 flag_later : (plan : VoterPlan) (t p : ℕ) → flag_at plan (t + 1) p ≡ any_flag plan
 flag_later plan t p = ap (λ (k : ℕ). flag_at plan k p) (add-one t)
 
-pub work_row : (plan : VoterPlan) (t p : ℕ) (v : Face) (flag : Bool) → p < length plan → v.left ≢ 0 → v ≡ ready (voter_row plan t) p → flag ≡ flag_at plan t p →
+pub work_row : (plan : VoterPlan) (t p : ℕ) (v : Face) (flag : Bool) → p < length plan → v.left ≢ 0 → v ≡ ready (voter_row plan t) p
+    → flag ≡ flag_at plan t p →
     (worked v (new_flag v.left flag v.got) ≡ voter_row plan (t + 1) p) × (new_flag v.left flag v.got ≡ flag_at plan (t + 1) p)
 work_row plan t p v flag l h e f =
     let some : left_at plan t ≢ 0 = λ z. h (ap (λ (u : Face). u.left) e ∙ z) in
     let k : new_flag v.left flag v.got ≡ any_flag plan =
-    ap (λ (u : Face). new_flag u.left flag u.got) e ∙ ap (λ (b : Bool). new_flag (left_at plan t) b (ready (voter_row plan t) p).got) f ∙ flag_next plan t p l some in (
+    ap (λ (u : Face). new_flag u.left flag u.got) e ∙ ap (λ (b : Bool). new_flag (left_at plan t) b (ready (voter_row plan t) p).got) f
+    ∙ flag_next plan t p l some in (
       ap (worked v) k ∙ ap (λ (u : Face). worked u (any_flag plan)) e
           ∙ ap (λ (j : ℕ). face_by (length plan) p j (all_of j (any_flag plan)) (any_flag plan)) (left_next plan t some)
-          ∙ ap (λ (b : Bool). face_by (length plan) p (left_at plan (t + 1)) (all_of (left_at plan (t + 1)) (any_flag plan)) b) (sym (flag_later plan t p)),
+          ∙ ap (λ (b : Bool). face_by (length plan) p (left_at plan (t + 1)) (all_of (left_at plan (t + 1)) (any_flag plan)) b)
+          (sym (flag_later plan t p)),
       k ∙ sym (flag_later plan t p),
     )
 
--- what a voter keeps
-lower : (me count low : ℕ) (xs : List ℕ) → Ascends me count low xs → Ascends me count 0 xs
-lower me count low [] h = tt
-lower me count low (x ∷ xs) h = (omega arith, h.1, h.2, h.3)
-
-pub tail_ascends : {A : Type 0} (me count : ℕ) (xs : List (ℕ × A)) (x : ℕ × A) (ys : List (ℕ × A)) → xs ≡ x ∷ ys → Ascends me count 0 (nodes_in xs) → Ascends me count 0 (nodes_in ys)
-tail_ascends {A} me count xs x ys e h = lower me count (x.0 + 1) (nodes_in ys) (subst (λ (w : List (ℕ × A)). Ascends me count 0 (nodes_in w)) e h).3
-
-pub pushed : {X : Type 0} (xs : List X) (x v : X) (k : ℕ) → slice_get (xs ++ x ∷ []) k ≡ Some v → (slice_get xs k ≡ Some v) ⊎ ((k ≡ length xs) × (v ≡ x))
+-- nodes that begin
+pub pushed : {X : Type 0} (xs : List X) (x v : X) (k : ℕ) → slice_get (xs ++ x ∷ []) k ≡ Some v → (slice_get xs k ≡ Some v)
+    ⊎ ((k ≡ length xs) × (v ≡ x))
 pushed [] x v zero e = inr (refl, (let h : v ≡ x = cc in h))
 pushed [] x v (suc k) e = absurd (cc)
 pushed (y ∷ ys) x v zero e = inl e
 pushed (y ∷ ys) x v (suc k) e = elim (pushed ys x v k e) [ inl a ↦ inl a | inr b ↦ inr (ap suc b.0, b.1) ]
 
-pub heard_next : (b : Bool) (ls : List Letter) (i : ℕ) (x : Letter) (is result : Bool) → i < length ls → x ≡ get_or ls i x → is ≡ heard b (take i ls) → result ≡ either is (flag_in x) →
+pub heard_next : (b : Bool) (ls : List Letter) (i : ℕ) (x : Letter) (is result : Bool) → i < length ls → x ≡ get_or ls i x
+    → is ≡ heard b (take i ls) → result ≡ either is (flag_in x) →
     result ≡ heard b (take (i + 1) ls)
 heard_next b ls i x is result l e h r =
     r ∙ ap (λ (z : Bool). either z (flag_in x)) h ∙ sym (heard_last b (take i ls) x)
@@ -230,10 +273,15 @@ heard_next b ls i x is result l e h r =
 pub voters_begin : (flags : List Bool) (nodes : List (View VoterState)) → length nodes ≡ length flags →
     ((k : ℕ) (v : View VoterState) → slice_get nodes k ≡ Some v → (v.face ≡ voter_row flags 0 k) × voter_holds flags 0 k v.state) →
     Begins (voter_row flags) (voter_holds flags) (length flags) (map (λ s. s) nodes)
-voters_begin flags nodes l h =
-    (length-map nodes (λ (s : View VoterState). s) ∙ l, λ p v e. h p v (subst (λ (z : List (View VoterState)). slice_get z p ≡ Some v) (map-id nodes) e))
+voters_begin flags nodes l h = (
+  length-map nodes (λ (s : View VoterState). s) ∙ l,
+  λ p v e. h p v (subst (λ (z : List (View VoterState)). slice_get z p ≡ Some v)
+      (map-id nodes) e),
+)
 
-pub count_again : (flags : List Bool) (p k : ℕ) (v w : View VoterState) → k ≡ p → v ≡ w → w.face ≡ face_by (length flags) p 3 (all_of 3 (get_or flags p false)) (get_or flags p false) → w.state.flag ≡ get_or flags p false → 4 ≤ w.state.room →
+pub count_again : (flags : List Bool) (p k : ℕ) (v w : View VoterState) → k ≡ p → v ≡ w
+    → w.face ≡ face_by (length flags) p 3 (all_of 3 (get_or flags p false)) (get_or flags p false) → w.state.flag ≡ get_or flags p false
+    → 4 ≤ w.state.room →
     (v.face ≡ voter_row flags 0 k) × voter_holds flags 0 k v.state
 count_again flags p k v w i e face flag pool = (
   ap (λ (u : View VoterState). u.face) e ∙ face ∙ ap (λ (j : ℕ). voter_row flags 0 j) (sym i),

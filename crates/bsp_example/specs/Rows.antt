@@ -66,7 +66,14 @@ voter_due left all me n = each (λ q. voter_wanted left) (from_whom left all me 
 
 -- the face of a voter as a phase begins
 abbrev pub face_by : ℕ → ℕ → ℕ → Bool → Bool → Face
-face_by n p left all flag = record { me = p; count = n; left = left; out = voter_out left all flag p n; due = voter_due left all p n; got = [] }
+face_by n p left all flag = record {
+  me = p;
+  count = n;
+  left = left;
+  out = voter_out left all flag p n;
+  due = voter_due left all p n;
+  got = [];
+}
 
 abbrev pub new_left : ℕ → Bool → ℕ
 new_left left flag = if left == 2 then (if flag then 1 else 0) else left - 1

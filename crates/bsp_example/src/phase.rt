@@ -2,19 +2,11 @@ ghost use Rattle.std.specs.Prelude.{◌≡◌, ◌≤◌, [], length, vec_capaci
 ghost use Rattle.bsp_core.specs.Others.{others};
 ghost use Rattle.bsp_example.specs.Rows.{voter_out, voter_due, voter_letter, voter_wanted, to_whom, from_whom};
 
+use bsp_desk::{Phase, phase_of};
 use chaos_letter::{Kind, Letter, Wanted};
 use fd_words::{Memory, Numbers};
 use std::alloc::Global;
 use std::collections::VecDeque;
-
-/// What a node does in a phase, and a list with some room.
-#[derive(Drop)]
-pub struct Phase {
-    pub out: VecDeque<(u32, Letter)>,
-    pub due: VecDeque<(u32, Wanted)>,
-    pub got: Vec<Letter>,
-    pub pool: Vec<u32>,
-}
 
 /// The nodes below a count but one.
 fn others_of(alloc: Global, me: u32, count: u32) -> Result<Vec<u32>, Memory>
@@ -95,7 +87,7 @@ fn wanted_of(left: u32) -> Wanted
 }
 
 /// A list with room, as much as it happens to get.
-fn pool_of(alloc: Global) -> Result<Vec<u32>, Memory>
+pub fn pool_of(alloc: Global) -> Result<Vec<u32>, Memory>
     ensures { IfOk result (λ v. 4 ≤ vec_capacity v) }
 {
     let mut pool = Vec::new(alloc);
@@ -105,7 +97,7 @@ fn pool_of(alloc: Global) -> Result<Vec<u32>, Memory>
     Ok(pool)
 }
 
-/// What a node prepares for a phase, with room for the letters that it takes.
+/// What a node begins a phase with.
 pub fn prepared(
     alloc: Global,
     left: u32,
@@ -114,11 +106,11 @@ pub fn prepared(
     count: u32,
     flag: bool,
 ) -> Result<Phase, Memory>
+    ensures left { IfOk result (λ f. f.left ≡ left) }
     ensures out { IfOk result (λ f. f.out.items ≡ voter_out left all flag me count) }
     ensures due { IfOk result (λ f. f.due.items ≡ voter_due left all me count) }
     ensures got { IfOk result (λ f. f.got.items ≡ []) }
     ensures room { IfOk result (λ f. length f.due.items ≤ vec_capacity f.got) }
-    ensures pool { IfOk result (λ f. 4 ≤ vec_capacity f.pool) }
 {
     let to = receivers_of(alloc, left, all, me, count)?;
     let from = senders_of(alloc, left, all, me, count)?;
@@ -131,12 +123,6 @@ pub fn prepared(
     'dues: for q in &from {
         due.push_back((*q, wanted_of(left)))?;
     }
-    let got = Vec::with_capacity(alloc, from.len())?;
-    let pool = pool_of(alloc)?;
-    Ok(Phase {
-        out,
-        due,
-        got,
-        pool,
-    })
+    let phase = phase_of(alloc, left, out, due)?;
+    Ok(phase)
 }

@@ -1,5 +1,6 @@
 -- The lines of a Mail are opened, pair by pair.
-use Rattle.std.proofs.Common.{◌≡◌, ◌≢◌, ℕ, ◌+◌, ◌*◌, ◌<◌, List, [], ◌∷◌, ◌++◌, length, set, Some, sym, ap, ◌∙◌, subst, ⊎_elim, arith, length-append}
+use Rattle.std.proofs.Common.{◌≡◌, ◌≢◌, ℕ, ◌+◌, ◌*◌, ◌<◌, List, [], ◌∷◌, ◌++◌, length, set, Some, sym, ap, ◌∙◌, subst, ⊎_elim, arith}
+use Rattle.std.proofs.Common.{length-append}
 use Rattle.std.specs.List.{slice_get}
 use Rattle.std.proofs.lemmas.Option.{slice_get_within}
 use Rattle.std.proofs.lemmas.Bool.Decides.{nat_tests}
@@ -17,10 +18,13 @@ use Rattle.bsp_mail.specs.Opens.{GetsOut, GetsIn, AreBare, IsSeated, outs_before
 use Rattle.bsp_mail.proofs.Lists.{snoc_get, get_longer, get_last, get_set}
 use Rattle.bsp_mail.proofs.Seating.{below_same, peer_back}
 
-end_longer : (queues more : Queues) (queue : Queue) (k : ℕ) (e : End) → more.lines.items ≡ queues.lines.items ++ queue ∷ [] → IsEndOf queues k e → IsEndOf more k e
-end_longer queues more queue k e is h = (h.0, subst (λ (l : List Queue). slice_get l k ≡ Some h.0) (sym is) (get_longer queues.lines.items (queue ∷ []) h.0 k h.1), h.2)
+end_longer : (queues more : Queues) (queue : Queue) (k : ℕ) (e : End) → more.lines.items ≡ queues.lines.items ++ queue ∷ []
+    → IsEndOf queues k e → IsEndOf more k e
+end_longer queues more queue k e is h =
+    (h.0, subst (λ (l : List Queue). slice_get l k ≡ Some h.0) (sym is) (get_longer queues.lines.items (queue ∷ []) h.0 k h.1), h.2)
 
-seated_longer : (queues more : Queues) (queue : Queue) (j : ℕ) (m : MailSeat) (a b : ℕ) → more.lines.items ≡ queues.lines.items ++ queue ∷ [] → IsSeated queues j m a b → IsSeated more j m a b
+seated_longer : (queues more : Queues) (queue : Queue) (j : ℕ) (m : MailSeat) (a b : ℕ) → more.lines.items ≡ queues.lines.items ++ queue
+    ∷ [] → IsSeated queues j m a b → IsSeated more j m a b
 seated_longer queues more queue j m a b is s = record {
   me = s.me;
   out_count = s.out_count;
@@ -30,10 +34,17 @@ seated_longer queues more queue j m a b is s = record {
 }
 
 recount : (queues : Queues) (j : ℕ) (m : MailSeat) (a b c d : ℕ) → a ≡ c → b ≡ d → IsSeated queues j m a b → IsSeated queues j m c d
-recount queues j m a b c d ac bd s = record { me = s.me; out_count = s.out_count ∙ ac; in_count = s.in_count ∙ bd; out_ends = s.out_ends; in_ends = s.in_ends }
+recount queues j m a b c d ac bd s = record {
+  me = s.me;
+  out_count = s.out_count ∙ ac;
+  in_count = s.in_count ∙ bd;
+  out_ends = s.out_ends;
+  in_ends = s.in_ends;
+}
 
 module _ (queues : Queues) (j q : ℕ) (m n : MailSeat) (e : End) (a b : ℕ) where
-  seated_out : GetsOut m n e → IsPeer j q → a ≡ below j q → IsOutOf queues j q e × (view_of e ≡ sender) → IsSeated queues j m a b → IsSeated queues j n (a + 1) b
+  seated_out : GetsOut m n e → IsPeer j q → a ≡ below j q → IsOutOf queues j q e × (view_of e ≡ sender) → IsSeated queues j m a b
+      → IsSeated queues j n (a + 1) b
   seated_out g peer is here s =
       let kept : n.ins.items ≡ m.ins.items = ap (λ o. o.items) g.2 in
       record {
@@ -48,7 +59,8 @@ module _ (queues : Queues) (j q : ℕ) (m n : MailSeat) (e : End) (a b : ℕ) wh
         in_ends = λ r u p at. s.in_ends r u p (subst (λ (l : List End). slice_get l (below j r) ≡ Some u) kept at);
       }
 
-  seated_in : GetsIn m n e → IsPeer j q → b ≡ below j q → IsInOf queues j q e × (view_of e ≡ receiver) → IsSeated queues j m a b → IsSeated queues j n a (b + 1)
+  seated_in : GetsIn m n e → IsPeer j q → b ≡ below j q → IsInOf queues j q e × (view_of e ≡ receiver) → IsSeated queues j m a b
+      → IsSeated queues j n a (b + 1)
   seated_in g peer is here s =
       let kept : n.outs.items ≡ m.outs.items = ap (λ o. o.items) g.1 in
       record {
@@ -105,10 +117,13 @@ module _ (queues more : Queues) (queue : Queue) (xs : List MailSeat) (from to : 
       → IsOpening more (set (set xs from n) to u) from (to + 1)
   pair_opened pair o is at_s out at_t ins tie_a is_a tie_b is_b =
       let apart : to ≢ from = pair.1.1 in
-      let line : slice_get more.lines.items (place from to) ≡ Some queue = subst (λ (l : List Queue). slice_get l (place from to) ≡ Some queue) (sym is) (get_last queues.lines.items queue (place from to) (sym o.lines)) in
+      let line : slice_get more.lines.items (place from to) ≡ Some queue = subst (λ (l : List Queue). slice_get l (place from to)
+      ≡ Some queue) (sym is) (get_last queues.lines.items queue (place from to) (sym o.lines)) in
       let here : IsOutOf more from to a × (view_of a ≡ sender) = (((queue, line, tie_a), ap (λ (v : Hand). v.sends) is_a), is_a) in
-      let there : IsInOf more to from b × (view_of b ≡ receiver) = (((queue, line, tie_b), ap (λ (v : Hand). v.takes) is_b, ap (λ (v : Hand). v.dropped) is_b), is_b) in
-      let was_t : slice_get xs to ≡ Some t = ⊎_elim (λ (h : (to ≡ from) × (n ≡ t)). absurd (apart h.0)) (λ (h : (to ≢ from) × (slice_get xs to ≡ Some t)). h.1) (get_set xs from to n t at_t) in
+      let there : IsInOf more to from b × (view_of b ≡ receiver) =
+      (((queue, line, tie_b), ap (λ (v : Hand). v.takes) is_b, ap (λ (v : Hand). v.dropped) is_b), is_b) in
+      let was_t : slice_get xs to ≡ Some t = ⊎_elim (λ (h : (to ≡ from) × (n ≡ t)). absurd (apart h.0))
+      (λ (h : (to ≢ from) × (slice_get xs to ≡ Some t)). h.1) (get_set xs from to n t at_t) in
       let Now : ℕ → MailSeat → Type 0 = λ j m. IsSeated more j m (outs_before from (to + 1) j) (ins_before from (to + 1) j) in
       let old_s = seated_longer queues more queue from s _ _ is (o.each from s at_s) in
       let new_s : Now from n = recount more from n _ _ _ _ (outs_more from to apart) (ins_else from to from (λ e. apart (sym e)))
@@ -131,7 +146,8 @@ module _ (queues more : Queues) (queue : Queue) (xs : List MailSeat) (from to : 
             (get_set (set xs from n) to j u m at);
       }
 
-pub pair_skipped : (queues : Queues) (xs : List MailSeat) (from to : ℕ) → from ≡ to → IsOpening queues xs from to → IsOpening queues xs from (to + 1)
+pub pair_skipped : (queues : Queues) (xs : List MailSeat) (from to : ℕ) → from ≡ to → IsOpening queues xs from to
+    → IsOpening queues xs from (to + 1)
 pair_skipped queues xs from to e o =
     subst (λ (k : ℕ). IsOpening queues xs from (k + 1)) e (
     let p = subst (λ (k : ℕ). IsOpening queues xs from k) (sym e) o in
@@ -142,7 +158,8 @@ pair_skipped queues xs from to e o =
       each = λ j m at. recount queues j m _ _ _ _ (outs_skip from j) (ins_skip from j) (p.each j m at);
     })
 
-pub row_opened : (queues : Queues) (xs : List MailSeat) (from : ℕ) → from < 16 → IsOpening queues xs from 16 → IsOpening queues xs (from + 1) 0
+pub row_opened : (queues : Queues) (xs : List MailSeat) (from : ℕ) → from < 16 → IsOpening queues xs from 16
+    → IsOpening queues xs (from + 1) 0
 row_opened queues xs from h o =
     let same : place from 16 ≡ place (from + 1) 0 = grind (arith, nat_tests) in
     record {
@@ -163,19 +180,31 @@ bare_opening queues xs none bare = record {
         me = b.0;
         out_count = ap length b.1 ∙ sym outs;
         in_count = ap length b.2 ∙ sym ins;
-        out_ends = λ q e p h. let no : slice_get [] (below j q) ≡ Some e = subst (λ (l : List End). slice_get l (below j q) ≡ Some e) b.1 h in absurd (cc);
-        in_ends = λ q e p h. let no : slice_get [] (below j q) ≡ Some e = subst (λ (l : List End). slice_get l (below j q) ≡ Some e) b.2 h in absurd (cc);
+        out_ends = λ q e p h. let no : slice_get [] (below j q) ≡ Some e = subst (λ (l : List End). slice_get l (below j q) ≡ Some e) b.1
+            h in absurd (cc);
+        in_ends = λ q e p h. let no : slice_get [] (below j q) ≡ Some e = subst (λ (l : List End). slice_get l (below j q) ≡ Some e) b.2
+            h in absurd (cc);
       };
 }
 
-pub bare_more : (xs : List MailSeat) (n : ℕ) (m : MailSeat) → AreBare xs n → m.me ≡ n → m.outs.items ≡ [] → m.ins.items ≡ [] → AreBare (xs ++ m ∷ []) (n + 1)
+pub bare_more : (xs : List MailSeat) (n : ℕ) (m : MailSeat) → AreBare xs n → m.me ≡ n → m.outs.items ≡ [] → m.ins.items ≡ []
+    → AreBare (xs ++ m ∷ []) (n + 1)
 bare_more xs n m b me outs ins = record {
   count = length-append xs (m ∷ []) ∙ ap (λ (k : ℕ). k + 1) b.count;
   each = λ j k at. ⊎_elim
       (λ (h : slice_get xs j ≡ Some k). b.each j k h)
-      (λ (h : (j ≡ length xs) × (m ≡ k)). subst (λ (y : MailSeat). (y.me ≡ j) × (y.outs.items ≡ []) × (y.ins.items ≡ [])) h.1 (me ∙ sym (h.0 ∙ b.count), outs, ins))
+      (λ (h : (j ≡ length xs) × (m ≡ k)). subst (λ (y : MailSeat). (y.me ≡ j) × (y.outs.items ≡ []) × (y.ins.items ≡ [])) h.1 (
+        me
+            ∙ sym (h.0 ∙ b.count),
+        outs,
+        ins,
+      ))
       (snoc_get xs m k j at);
 }
 
 pub bare_none : (xs : List MailSeat) → xs ≡ [] → AreBare xs 0
-bare_none xs e = record { count = ap length e; each = λ j m at. let no : slice_get [] j ≡ Some m = subst (λ (l : List MailSeat). slice_get l j ≡ Some m) e at in absurd (cc) }
+bare_none xs e = record {
+  count = ap length e;
+  each = λ j m at. let no : slice_get [] j ≡ Some m = subst
+      (λ (l : List MailSeat). slice_get l j ≡ Some m) e at in absurd (cc);
+}

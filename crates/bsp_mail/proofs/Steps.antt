@@ -1,5 +1,6 @@
 -- Each step of a line keeps its rule.
-use Rattle.std.proofs.Common.{◌≡◌, ◌≢◌, ℕ, zero, suc, Bool, true, false, true≢false, List, [], ◌∷◌, ◌++◌, length, set, sym, refl, ap, ◌∙◌, subst, ⊎_elim, append_assoc, append-nil}
+use Rattle.std.proofs.Common.{◌≡◌, ◌≢◌, ℕ, zero, suc, Bool, true, false, true≢false, List, [], ◌∷◌, ◌++◌, length, set, sym, refl, ap, ◌∙◌}
+use Rattle.std.proofs.Common.{subst, ⊎_elim, append_assoc, append-nil}
 use mathlib.Core.Option.{some, some-ne-none}
 use lib.ListN.{get_elem?}
 use Rattle.crossbeam_queue.specs.Fifo.{Pushes, Pops, Forks, Merges, Learns}
@@ -17,8 +18,10 @@ at_end (x ∷ xs) a b (suc j) n e = ap suc (at_end xs a b j n e)
 abbrev All : (ℕ → Hand → Type 0) → List Hand → Type 0
 All F views = (pass : ℕ) (v : Hand) → get_elem? views pass ≡ some v → F pass v
 
-all_set : (F : ℕ → Hand → Type 0) (views : List Hand) (pass : ℕ) (w : Hand) → F pass w → ((j : ℕ) (u : Hand) → j ≢ pass → get_elem? views j ≡ some u → F j u) → All F (set views pass w)
-all_set F views pass w mine others j u e = ⊎_elim (λ (x : (j ≡ pass) × (w ≡ u)). subst (λ (y : ℕ × Hand). F y.0 y.1) (λ i. (sym x.0 i, x.1 i)) mine)
+all_set : (F : ℕ → Hand → Type 0) (views : List Hand) (pass : ℕ) (w : Hand) → F pass w
+    → ((j : ℕ) (u : Hand) → j ≢ pass → get_elem? views j ≡ some u → F j u) → All F (set views pass w)
+all_set F views pass w mine others j u e = ⊎_elim (λ (x : (j ≡ pass) × (w ≡ u)). subst (λ (y : ℕ × Hand). F y.0 y.1)
+    (λ i. (sym x.0 i, x.1 i)) mine)
     (λ (x : (j ≢ pass) × (get_elem? views j ≡ some u)). others j u x.0 x.1) (at_set views pass j w u e)
 
 never : (b : Bool) → b ≡ false → b ≡ true → ⊥
@@ -69,7 +72,14 @@ takes pass v may none x items views h at = let mine = h.6 pass v at in let taken
     taken,
     h.4,
     h.5 ∙ taken_on h.3 h.4 items x (sym (mine.1 may).2 ∙ none),
-    all_set (Fits h.0 h.1 h.2 taken h.4) views pass (after_take v x) (mine.0, λ _. ((mine.1 may).0, ap (λ l. l ++ x ∷ []) (mine.1 may).1, (mine.1 may).2))
+    all_set (Fits h.0 h.1 h.2 taken h.4) views pass (after_take v x) (
+      mine.0,
+      λ _. (
+        (mine.1 may).0,
+        ap (λ l. l ++ x ∷ []) (mine.1 may).1,
+        (mine.1 may).2,
+      ),
+    )
         (λ j u other e. ((h.6 j u e).0, λ p. absurd (other (((h.6 j u e).1 p).0 ∙ sym (mine.1 may).0)))),
   ),
   refl,
@@ -81,9 +91,11 @@ prefix_of s t d items e = (d ++ items, e ∙ append_assoc t d items)
 
 pub learns : (pass : ℕ) (v : Hand) → v.sends ≡ true → v.takes ≡ true → Learns InOrder pass v (λ items. IsPrefix v.taken v.sent)
 learns pass v a b items views h at = let mine = h.6 pass v at in
-    prefix_of v.sent v.taken v.dropped items ((mine.0 a).1 ∙ h.5 ∙ ap (λ (y : List Letter × List Letter). (y.0 ++ y.1) ++ items) (λ i. (sym (mine.1 b).1 i, sym (mine.1 b).2 i)))
+    prefix_of v.sent v.taken v.dropped items ((mine.0 a).1 ∙ h.5 ∙ ap (λ (y : List Letter × List Letter). (y.0 ++ y.1) ++ items)
+    (λ i. (sym (mine.1 b).1 i, sym (mine.1 b).2 i)))
 
-pub drops : (pass : ℕ) (v : Hand) → v.sends ≡ true → v.takes ≡ true → Pops InOrder pass v (λ x w. (w ≡ after_drop v x) × IsPrefix v.taken v.sent)
+pub drops : (pass : ℕ) (v : Hand) → v.sends ≡ true → v.takes ≡ true → Pops InOrder pass v (λ x w. (w ≡ after_drop v x)
+    × IsPrefix v.taken v.sent)
 drops pass v a b x items views h at = let mine = h.6 pass v at in let dropped = h.4 ++ x ∷ [] in (
   after_drop v x,
   (
@@ -93,7 +105,8 @@ drops pass v a b x items views h at = let mine = h.6 pass v at in let dropped = 
     h.3,
     dropped,
     h.5 ∙ dropped_on h.3 h.4 items x,
-    all_set (Fits h.0 h.1 h.2 h.3 dropped) views pass (after_drop v x) (mine.0, λ _. ((mine.1 b).0, (mine.1 b).1, ap (λ l. l ++ x ∷ []) (mine.1 b).2))
+    all_set (Fits h.0 h.1 h.2 h.3 dropped) views pass (after_drop v x)
+        (mine.0, λ _. ((mine.1 b).0, (mine.1 b).1, ap (λ l. l ++ x ∷ []) (mine.1 b).2))
         (λ j u other e. ((h.6 j u e).0, λ p. absurd (other (((h.6 j u e).1 p).0 ∙ sym (mine.1 b).0)))),
   ),
   (refl, learns pass v a b (x ∷ items) views h at),
@@ -115,7 +128,11 @@ gives pass v l r b ends same alone t d items views h at = let mine = h.6 pass v 
       λ j u e. ⊎_elim (λ x. ((old j u x).0, λ p. absurd ((old j u x).1 p)))
           (λ (is : r ≡ u). (
             (λ p. absurd (never _ (sym (ap (λ (y : Hand). y.sends) is) ∙ alone) p)),
-            λ p. (at_end vs r u j (λ x. (old j u x).1 p) e, ap (λ (y : Hand). y.taken) (sym is) ∙ t ∙ (mine.1 b).1, ap (λ (y : Hand). y.dropped) (sym is) ∙ d ∙ (mine.1 b).2),
+            λ p. (
+              at_end vs r u j (λ x. (old j u x).1 p) e,
+              ap (λ (y : Hand). y.taken) (sym is) ∙ t ∙ (mine.1 b).1,
+              ap (λ (y : Hand). y.dropped) (sym is) ∙ d ∙ (mine.1 b).2,
+            ),
           ))
           (at_snoc vs r u j e),
     )
@@ -123,7 +140,8 @@ gives pass v l r b ends same alone t d items views h at = let mine = h.6 pass v 
 -- an empty poll is counted
 pub polls : (pass : ℕ) (v : Hand) → Forks InOrder pass v (after_poll v) nobody
 polls pass v items views h at = let mine = h.6 pass v at in let vs : List Hand = set views pass (after_poll v) in
-    let old : All (Fits h.0 h.1 h.2 h.3 h.4) vs = all_set (Fits h.0 h.1 h.2 h.3 h.4) views pass (after_poll v) mine (λ j u other e. h.6 j u e) in (
+    let old : All (Fits h.0 h.1 h.2 h.3 h.4) vs = all_set (Fits h.0 h.1 h.2 h.3 h.4) views pass (after_poll v) mine
+    (λ j u other e. h.6 j u e) in (
       h.0,
       h.1,
       h.2,
@@ -138,10 +156,23 @@ polls pass v items views h at = let mine = h.6 pass v at in let vs : List Hand =
           (at_snoc vs nobody u j e),
     )
 
-pub unites : (pass : ℕ) (v : Hand) (other : ℕ) (u : Hand) → v.sends ≡ true → u.takes ≡ true → Merges InOrder pass v other u (both_hands v u) nobody
-unites pass v other u a b items views h at two at' = let both : Hand = both_hands v u in let mine = h.6 pass v at in let vs : List Hand = set views pass both in
-    let was : get_elem? views other ≡ some u = ⊎_elim (λ x. absurd (two x.0)) (λ x. x.1) (at_set views pass other both u at') in let theirs = (h.6 other u was).1 b in
+pub unites : (pass : ℕ) (v : Hand) (other : ℕ) (u : Hand) → v.sends ≡ true → u.takes ≡ true
+    → Merges InOrder pass v other u (both_hands v u) nobody
+unites pass v other u a b items views h at two at' = let both : Hand = both_hands v u in let mine = h.6 pass v at in let vs : List Hand =
+    set views pass both in
+    let was : get_elem? views other ≡ some u = ⊎_elim (λ x. absurd (two x.0)) (λ x. x.1) (at_set views pass other both u at') in
+    let theirs = (h.6 other u was).1 b in
     let Now : ℕ → Hand → Type 0 = λ j y. j ≢ other → Fits h.0 pass h.2 h.3 h.4 j y in
     let now : All Now vs = all_set Now views pass both (λ _. ((λ _. mine.0 a), λ _. (refl, theirs.1, theirs.2)))
-    (λ j y _ e apart. ((h.6 j y e).0, λ p. absurd (apart (((h.6 j y e).1 p).0 ∙ sym theirs.0)))) in
-    (h.0, pass, h.2, h.3, h.4, h.5, all_set (Fits h.0 pass h.2 h.3 h.4) vs other nobody ((λ p. absurd (true≢false (sym p))), λ p. absurd (true≢false (sym p))) (λ j y apart e. now j y e apart))
+    (λ j y _ e apart. ((h.6 j y e).0, λ p. absurd (apart (((h.6 j y e).1 p).0 ∙ sym theirs.0)))) in (
+      h.0,
+      pass,
+      h.2,
+      h.3,
+      h.4,
+      h.5,
+      all_set (Fits h.0 pass h.2 h.3 h.4) vs other nobody (
+        (λ p. absurd (true≢false (sym p))),
+        λ p. absurd (true≢false (sym p)),
+      ) (λ j y apart e. now j y e apart),
+    )

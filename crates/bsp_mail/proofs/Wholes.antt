@@ -42,17 +42,21 @@ module _ (queues : Queues) (xs : List MailSeat) (w : IsWhole queues xs) where
         let g = seat_there p pair.0 in
         let m = g.0 in
         let o = w.each p m g.1 in
-        let here : slice_get m.outs.items (below p q) ≡ Some e = subst (λ (l : List End). slice_get l (below p q) ≡ Some e) (part_got outs_of [] xs p m g.1) at in
+        let here : slice_get m.outs.items (below p q) ≡ Some e = subst (λ (l : List End). slice_get l (below p q) ≡ Some e)
+        (part_got outs_of [] xs p m g.1) at in
         let ends : (k : ℕ) → m.me ≡ k → IsPeer k q → slice_get m.outs.items (below k q) ≡ Some e → IsOutOf queues k q e =
-        λ k is. subst (λ (i : ℕ). IsPeer i q → slice_get m.outs.items (below i q) ≡ Some e → IsOutOf queues i q e) is (λ peer got. o.1.out_ends q e peer got) in
+        λ k is. subst (λ (i : ℕ). IsPeer i q → slice_get m.outs.items (below i q) ≡ Some e → IsOutOf queues i q e) is
+        (λ peer got. o.1.out_ends q e peer got) in
         ends p o.0 pair.1 here;
     ins = λ e at.
         let g = seat_there q pair.1.0 in
         let m = g.0 in
         let o = w.each q m g.1 in
-        let here : slice_get m.ins.items (below q p) ≡ Some e = subst (λ (l : List End). slice_get l (below q p) ≡ Some e) (part_got ins_of [] xs q m g.1) at in
+        let here : slice_get m.ins.items (below q p) ≡ Some e = subst (λ (l : List End). slice_get l (below q p) ≡ Some e)
+        (part_got ins_of [] xs q m g.1) at in
         let ends : (k : ℕ) → m.me ≡ k → IsPeer k p → slice_get m.ins.items (below k p) ≡ Some e → IsInOf queues k p e =
-        λ k is. subst (λ (i : ℕ). IsPeer i p → slice_get m.ins.items (below i p) ≡ Some e → IsInOf queues i p e) is (λ peer got. o.1.in_ends p e peer got) in
+        λ k is. subst (λ (i : ℕ). IsPeer i p → slice_get m.ins.items (below i p) ≡ Some e → IsInOf queues i p e) is
+        (λ peer got. o.1.in_ends p e peer got) in
         ends q o.0 (peer_back p q pair.0 pair.1) here;
   }
 
@@ -89,8 +93,10 @@ module _ (queues : Queues) (xs : List MailSeat) (o : IsOpening queues xs 16 0) w
           outs = s.out_count ∙ outs_all j few;
           ins = s.in_count ∙ ins_all j few;
           lines = lines;
-          out_ends = λ q e. subst (λ (k : ℕ). IsPeer k q → slice_get m.outs.items (below k q) ≡ Some e → IsOutOf queues k q e) (sym s.me) (λ peer got. (s.out_ends q e peer got).0);
-          in_ends = λ q e. subst (λ (k : ℕ). IsPeer k q → slice_get m.ins.items (below k q) ≡ Some e → IsInOf queues k q e) (sym s.me) (λ peer got. (s.in_ends q e peer got).0);
+          out_ends = λ q e. subst (λ (k : ℕ). IsPeer k q → slice_get m.outs.items (below k q) ≡ Some e → IsOutOf queues k q e) (sym s.me)
+              (λ peer got. (s.out_ends q e peer got).0);
+          in_ends = λ q e. subst (λ (k : ℕ). IsPeer k q → slice_get m.ins.items (below k q) ≡ Some e → IsInOf queues k q e) (sym s.me)
+              (λ peer got. (s.in_ends q e peer got).0);
         },
       )
 
@@ -102,7 +108,8 @@ module _ (queues : Queues) (xs : List MailSeat) (o : IsOpening queues xs 16 0) w
       let count = s.out_count ∙ outs_all p pair.0 in
       let fits = below_fits p q pair.0 pair.1 in
       let e = get_there m.outs.items (below p q) (omega (arith, count, fits)) in
-      ap (λ (l : List End). hand_at l (below p q)) (part_got outs_of [] xs p m g.1) ∙ map_got view_of nobody m.outs.items (below p q) e.0 e.1 ∙ (s.out_ends q e.0 pair.1 e.1).1
+      ap (λ (l : List End). hand_at l (below p q)) (part_got outs_of [] xs p m g.1)
+      ∙ map_got view_of nobody m.outs.items (below p q) e.0 e.1 ∙ (s.out_ends q e.0 pair.1 e.1).1
 
   fresh_in : (p q : ℕ) → IsPair p q → hand_at (part ins_of [] xs q) (below q p) ≡ receiver
   fresh_in p q pair =
@@ -113,7 +120,8 @@ module _ (queues : Queues) (xs : List MailSeat) (o : IsOpening queues xs 16 0) w
       let count = s.in_count ∙ ins_all q pair.1.0 in
       let fits = below_fits q p pair.1.0 back in
       let e = get_there m.ins.items (below q p) (omega (arith, count, fits)) in
-      ap (λ (l : List End). hand_at l (below q p)) (part_got ins_of [] xs q m g.1) ∙ map_got view_of nobody m.ins.items (below q p) e.0 e.1 ∙ (s.in_ends p e.0 back e.1).1
+      ap (λ (l : List End). hand_at l (below q p)) (part_got ins_of [] xs q m g.1)
+      ∙ map_got view_of nobody m.ins.items (below q p) e.0 e.1 ∙ (s.in_ends p e.0 back e.1).1
 
   pub all_opened : IsFresh queues xs
   all_opened = record {

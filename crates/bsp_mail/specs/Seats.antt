@@ -1,5 +1,6 @@
 -- What a clause sees of the seats.
-use Rattle.std.specs.Prelude.{◌≡◌, ◌≢◌, ℕ, ◌+◌, ◌-◌, ◌*◌, ◌<◌, true, ◌==◌, cond, nat_lt, Option, Some, List, [], ◌∷◌, length, map, slice_get, slice_index_or}
+use Rattle.std.specs.Prelude.{◌≡◌, ◌≢◌, ℕ, ◌+◌, ◌-◌, ◌*◌, ◌<◌, true, ◌==◌, cond, nat_lt, Option, Some, List, [], ◌∷◌, length, map}
+use Rattle.std.specs.Prelude.{slice_get, slice_index_or}
 use Rattle.crossbeam_queue.specs.SegTies.{IsSegPassOf}
 use Rattle.atomic_blocks.specs.declared.web.Seat.{Seat}
 use Rattle.crossbeam_queue.specs.declared.seg_queue.Going.{Going}
@@ -70,4 +71,5 @@ IsInAt queues s q = (e : End) → slice_get s.ins.items (below s.me q) ≡ Some 
 
 -- a pass with the right to take from this line, and what it has taken
 abbrev pub IsHeirOf : Queues → ℕ → List Letter → Seat (Option Letter) (Going Letter Hand) Global → Type 0
-IsHeirOf queues k taken pass = ((queue : Queue) → slice_get queues.lines.items k ≡ Some queue → IsSegPassOf queue.line pass) × (pass.me.view.client.takes ≡ true) × (pass.me.view.client.taken ≡ taken)
+IsHeirOf queues k taken pass = ((queue : Queue) → slice_get queues.lines.items k ≡ Some queue → IsSegPassOf queue.line pass)
+    × (pass.me.view.client.takes ≡ true) × (pass.me.view.client.taken ≡ taken)

@@ -19,7 +19,8 @@ pub type Pass = SegPass<Letter, Hand>;
 
 /// A new line, its sender's pass and its receiver's.
 pub fn open(alloc: Global) -> Result<(Line, Pass, Pass), Memory>
-    ensures { IfOk result (λ r. IsSegPassOf r.0 r.1 × IsSegPassOf r.0 r.2 × (r.1.me.view.client ≡ sender) × (r.2.me.view.client ≡ receiver)) }
+    ensures { IfOk result (λ r. IsSegPassOf r.0 r.1 × IsSegPassOf r.0 r.2 × (r.1.me.view.client ≡ sender)
+        × (r.2.me.view.client ≡ receiver)) }
 {
     let (line, mut pass) = Line::with_rule(alloc)?;
     let other = line.another::<Roles>(&mut pass);
@@ -31,7 +32,8 @@ pub fn put<R: Wait>(rt: &R, line: &Line, pass: &mut Pass, letter: Letter) -> Res
     requires pass { IsSegPassOf line.now pass.old }
     requires role { pass.old.me.view.client.sends ≡ true }
     ensures pass { IsSegPassOf line.now pass.new }
-    ensures put { MatchResult result (λ _. pass.new.me.view.client ≡ after_put pass.old.me.view.client letter) (λ x. (x ≡ letter) × (pass.new.me.view.client ≡ pass.old.me.view.client)) }
+    ensures put { MatchResult result (λ _. pass.new.me.view.client ≡ after_put pass.old.me.view.client letter) (λ x. (x ≡ letter)
+        × (pass.new.me.view.client ≡ pass.old.me.view.client)) }
 {
     line.push_as::<Puts, R>(rt, pass, letter)
 }
@@ -41,7 +43,8 @@ pub fn take<R: Wait>(rt: &R, line: &Line, pass: &mut Pass) -> Option<Letter>
     requires pass { IsSegPassOf line.now pass.old }
     requires role { (pass.old.me.view.client.takes ≡ true) × (pass.old.me.view.client.dropped ≡ []) }
     ensures pass { IsSegPassOf line.now pass.new }
-    ensures take { MatchOption result (pass.new.me.view.client ≡ after_poll pass.old.me.view.client) (λ x. pass.new.me.view.client ≡ after_take pass.old.me.view.client x) }
+    ensures take { MatchOption result (pass.new.me.view.client ≡ after_poll pass.old.me.view.client) (λ x. pass.new.me.view.client
+        ≡ after_take pass.old.me.view.client x) }
 {
     match line.pop_as::<Takes, R>(rt, pass) {
         Some(letter) => Some(letter),

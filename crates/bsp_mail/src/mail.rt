@@ -1,7 +1,8 @@
 ghost use Rattle.std.specs.Prelude.{◌≡◌, ◌<◌, ◌+◌, IfOk};
 ghost use Rattle.bsp_mail.specs.Rule.{IsPrefix};
 ghost use Rattle.bsp_mail.specs.Seats.{place, IsHeirOf};
-ghost use Rattle.bsp_mail.specs.Mails.{IsPair, IsOutOn, AreRetired, AreUnited, IsShaped, IsOpenPair, IsWhole, IsFresh, SameLists, SameElse, ArePrefixes, sent_on, taken_on};
+ghost use Rattle.bsp_mail.specs.Mails.{IsPair, IsOutOn, AreRetired, AreUnited, IsShaped, IsOpenPair, IsWhole, IsFresh, SameLists, SameElse};
+ghost use Rattle.bsp_mail.specs.Mails.{ArePrefixes, sent_on, taken_on};
 ghost use Rattle.bsp_mail.specs.Opens.{AreBare, IsOpening};
 
 use crate::line::Pass;

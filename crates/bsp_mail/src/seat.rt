@@ -37,7 +37,8 @@ impl MailSeat {
         requires peer { IsPeer self.old.me to }
         ensures open { IsOpenOn queues.now self.new }
         ensures same { (self.new.me ≡ self.old.me) × (self.new.ins ≡ self.old.ins) }
-        ensures put { MatchResult result (λ _. (q : ℕ) → IsPeer self.old.me q → sent_to self.new q ≡ sent_to self.old q ++ only to q letter) (λ x. (x ≡ letter) × ((q : ℕ) → IsPeer self.old.me q → sent_to self.new q ≡ sent_to self.old q)) }
+        ensures put { MatchResult result (λ _. (q : ℕ) → IsPeer self.old.me q → sent_to self.new q ≡ sent_to self.old q
+            ++ only to q letter) (λ x. (x ≡ letter) × ((q : ℕ) → IsPeer self.old.me q → sent_to self.new q ≡ sent_to self.old q)) }
     {
         let queue = &queues.lines[place_of(self.me, to)];
         let end = &mut self.outs[below_of(self.me, to)];
@@ -53,8 +54,10 @@ impl MailSeat {
         ensures same { (self.new.me ≡ self.old.me) × (self.new.outs ≡ self.old.outs) }
         ensures others { (q : ℕ) → IsPeer self.old.me q → q ≢ from → polls_of self.new q ≡ polls_of self.old q }
         ensures take { MatchOption result
-            ((polls_of self.new from ≡ polls_of self.old from + 1) × ((q : ℕ) → IsPeer self.old.me q → taken_from self.new q ≡ taken_from self.old q))
-            (λ x. (polls_of self.new from ≡ 0) × ((q : ℕ) → IsPeer self.old.me q → taken_from self.new q ≡ taken_from self.old q ++ only from q x)) }
+            ((polls_of self.new from ≡ polls_of self.old from + 1)
+            × ((q : ℕ) → IsPeer self.old.me q → taken_from self.new q ≡ taken_from self.old q))
+            (λ x. (polls_of self.new from ≡ 0) × ((q : ℕ) → IsPeer self.old.me q → taken_from self.new q ≡ taken_from self.old q
+            ++ only from q x)) }
     {
         let queue = &queues.lines[place_of(from, self.me)];
         let end = &mut self.ins[below_of(self.me, from)];
@@ -67,7 +70,8 @@ impl MailSeat {
         requires peer { IsPeer self.old.me from }
         requires end { IsInAt queues.now self.old from }
         ensures same { (self.new.me ≡ self.old.me) × (self.new.outs ≡ self.old.outs) × (length self.new.ins.items ≡ 15) }
-        ensures others { (q : ℕ) → IsPeer self.old.me q → q ≢ from → slice_get self.new.ins.items (below self.old.me q) ≡ slice_get self.old.ins.items (below self.old.me q) }
+        ensures others { (q : ℕ) → IsPeer self.old.me q → q ≢ from → slice_get self.new.ins.items (below self.old.me q)
+            ≡ slice_get self.old.ins.items (below self.old.me q) }
         ensures taken { (q : ℕ) → IsPeer self.old.me q → taken_from self.new q ≡ taken_from self.old q }
         ensures heir { IsHeirOf queues.now (place from self.old.me) (taken_from self.old from) result }
     {
@@ -83,7 +87,8 @@ impl MailSeat {
         requires end { IsOutAt queues.now self.old to }
         requires heir { IsHeirOf queues.now (place self.old.me to) heir.me.view.client.taken heir }
         ensures same { (self.new.me ≡ self.old.me) × (self.new.ins ≡ self.old.ins) × (length self.new.outs.items ≡ 15) }
-        ensures others { (q : ℕ) → IsPeer self.old.me q → q ≢ to → slice_get self.new.outs.items (below self.old.me q) ≡ slice_get self.old.outs.items (below self.old.me q) }
+        ensures others { (q : ℕ) → IsPeer self.old.me q → q ≢ to → slice_get self.new.outs.items (below self.old.me q)
+            ≡ slice_get self.old.outs.items (below self.old.me q) }
         ensures sent { (q : ℕ) → IsPeer self.old.me q → sent_to self.new q ≡ sent_to self.old q }
         ensures prefix { IsPrefix heir.me.view.client.taken (sent_to self.old to) }
     {

@@ -1,5 +1,6 @@
 -- One step of a seat, and several.
-use Rattle.std.proofs.Common.{◌≡◌, ◌≢◌, ℕ, ◌+◌, ◌^◌, ◌<◌, ◌≤◌, List, [], ◌∷◌, ◌++◌, ◌⊎◌, ⊎_elim, inl, inr, arith, sym, refl, ap, ◌∙◌, subst, append_assoc, Result, Ok, Err, length, length-append}
+use Rattle.std.proofs.Common.{◌≡◌, ◌≢◌, ℕ, ◌+◌, ◌^◌, ◌<◌, ◌≤◌, List, [], ◌∷◌, ◌++◌, ◌⊎◌, ⊎_elim, inl, inr, arith, sym, refl, ap, ◌∙◌, subst}
+use Rattle.std.proofs.Common.{append_assoc, Result, Ok, Err, length, length-append}
 use Rattle.chaos_letter.specs.declared.letter.Letter.{Letter}
 use Rattle.chaos_letter.specs.declared.wanted.Wanted.{Wanted}
 use Rattle.chaos_letter.specs.Fits.{Fits}
@@ -21,11 +22,14 @@ use Rattle.bsp_threads.specs.declared.seat.Standing.{Standing}
 use Rattle.bsp_threads.specs.declared.seat.Standing.TheVariants.{Going, Finished as IsFinished, Strayed, OutOfMemory}
 use Rattle.bsp_threads.specs.declared.seat.DriveSeat.{DriveSeat}
 use Rattle.bsp_threads.specs.Seats.{works_in, HasMailed, IsReady, HasDone}
-use Rattle.bsp_threads.specs.Drives.{fault_of, standing_after, HasStrayed, MayLackOne, Ends, Answers, HasWaited, HasMoved, HasPolled, IsOnTheWay}
-use Rattle.bsp_threads.proofs.Doing.{mailed_none, mailed_work, mailed_put, mailed_unput, mailed_take, mailed_poll, mailed_append, works_append}
+use Rattle.bsp_threads.specs.Drives.{fault_of, standing_after, HasStrayed, MayLackOne, Ends, Answers, HasWaited, HasMoved, HasPolled}
+use Rattle.bsp_threads.specs.Drives.{IsOnTheWay}
+use Rattle.bsp_threads.proofs.Doing.{mailed_none, mailed_work, mailed_put, mailed_unput, mailed_take, mailed_poll, mailed_append}
+use Rattle.bsp_threads.proofs.Doing.{works_append}
 
 module _ {S : Type 0} (w : View S) where
-  strayed_more : (wanted : Wanted) (got : Letter) (xs acts mailed : List Act) → HasStrayed w wanted got acts mailed → HasStrayed w wanted got (xs ++ acts) (xs ++ mailed)
+  strayed_more : (wanted : Wanted) (got : Letter) (xs acts mailed : List Act) → HasStrayed w wanted got acts mailed
+      → HasStrayed w wanted got (xs ++ acts) (xs ++ mailed)
   strayed_more wanted got xs acts mailed h = record {
     from = h.from;
     rest = h.rest;
@@ -38,7 +42,12 @@ module _ {S : Type 0} (w : View S) where
   lack_more : (xs acts mailed : List Act) → MayLackOne acts mailed → MayLackOne (xs ++ acts) (xs ++ mailed)
   lack_more xs acts mailed h = ⊎_elim
       (λ (e : mailed ≡ acts). inl (ap (λ l. xs ++ l) e))
-      (λ (e : (to : ℕ) × (x : Letter) × (acts ≡ mailed ++ Sent to x ∷ [])). inr (e.0, e.1, ap (λ l. xs ++ l) e.2 ∙ sym (append_assoc xs mailed (Sent e.0 e.1 ∷ []))))
+      (λ (e : (to : ℕ) × (x : Letter) × (acts ≡ mailed ++ Sent to x ∷ [])). inr (
+        e.0,
+        e.1,
+        ap (λ l. xs ++ l) e.2
+            ∙ sym (append_assoc xs mailed (Sent e.0 e.1 ∷ [])),
+      ))
       h
 
   pub ends_more : (k : Standing) (xs acts mailed : List Act) → Ends k w acts mailed → Ends k w (xs ++ acts) (xs ++ mailed)
@@ -47,7 +56,8 @@ module _ {S : Type 0} (w : View S) where
   ends_more Strayed xs acts mailed h = (h.0, h.1, strayed_more h.0 h.1 xs acts mailed h.2)
   ends_more OutOfMemory xs acts mailed h = lack_more xs acts mailed h
 
-  pub answers_more : (r : Result Drove DriveFault) (xs acts mailed : List Act) → Answers r w acts mailed → Answers r w (xs ++ acts) (xs ++ mailed)
+  pub answers_more : (r : Result Drove DriveFault) (xs acts mailed : List Act) → Answers r w acts mailed
+      → Answers r w (xs ++ acts) (xs ++ mailed)
   answers_more (Ok Finished) xs acts mailed h = (ap (λ l. xs ++ l) h.0, h.1)
   answers_more (Ok Waiting) xs acts mailed h = ap (λ l. xs ++ l) h
   answers_more (Err (Stray wanted got)) xs acts mailed h = strayed_more wanted got xs acts mailed h
@@ -75,7 +85,15 @@ module _ {S : Type 0} (v w : View S) (x : Letter) where
 
 module _ {N S : Type 0} (view : N → View S) (works : View S → View S → Type 0) where
   pub done_none : (s : DriveSeat N) → HasMoved view works s s
-  done_none s = record { acts = []; mailed = []; follows = refl; count = refl; mail = mailed_none (view s.node).face.count s.mail; works_are = λ small. omega arith; tied = refl }
+  done_none s = record {
+    acts = [];
+    mailed = [];
+    follows = refl;
+    count = refl;
+    mail = mailed_none (view s.node).face.count s.mail;
+    works_are = λ small. omega arith;
+    tied = refl;
+  }
 
   pub then_done : (s t u : DriveSeat N) (E F : List Act → List Act → Type 0) → HasMoved view works s t → HasDone view works t E u
       → ((xs acts mailed : List Act) → E acts mailed → F (xs ++ acts) (xs ++ mailed)) → HasDone view works s F u
@@ -85,7 +103,8 @@ module _ {N S : Type 0} (view : N → View S) (works : View S → View S → Typ
         mailed = a.acts ++ b.mailed;
         follows = runs_append works (view s.node) (view t.node) (view u.node) a.acts b.acts a.follows b.follows;
         count = b.count ∙ a.count;
-        mail = mailed_append n s.mail t.mail u.mail a.acts b.mailed (subst (λ (l : List Act). HasMailed n s.mail l t.mail) a.tied a.mail) (subst (λ (k : ℕ). HasMailed k t.mail b.mailed u.mail) a.count b.mail);
+        mail = mailed_append n s.mail t.mail u.mail a.acts b.mailed (subst (λ (l : List Act). HasMailed n s.mail l t.mail) a.tied a.mail)
+            (subst (λ (k : ℕ). HasMailed k t.mail b.mailed u.mail) a.count b.mail);
         works_are = λ small.
             let e = works_append a.acts b.acts in
             let one : t.works ≡ s.works + works_in a.acts = a.works_are (omega arith) in
@@ -95,12 +114,15 @@ module _ {N S : Type 0} (view : N → View S) (works : View S → View S → Typ
       }
 
   pub then_moved : (s t u : DriveSeat N) → HasMoved view works s t → HasMoved view works t u → HasMoved view works s u
-  then_moved s t u a b = then_done s t u (λ acts mailed. mailed ≡ acts) (λ acts mailed. mailed ≡ acts) a b (λ xs acts mailed e. ap (λ l. xs ++ l) e)
+  then_moved s t u a b = then_done s t u (λ acts mailed. mailed ≡ acts) (λ acts mailed. mailed ≡ acts) a b
+      (λ xs acts mailed e. ap (λ l. xs ++ l) e)
 
   -- one action
   module _ (s t : DriveSeat N) where
-    pub has_sent : (to : ℕ) (x : Letter) → next_of (view s.node).face ≡ Send to → (to < (view s.node).face.count) × (to ≢ s.mail.me) → Posts (view s.node) x (view t.node) → t.works ≡ s.works
-        → (t.mail.me ≡ s.mail.me) × (t.mail.ins ≡ s.mail.ins) → ((q : ℕ) → IsPeer s.mail.me q → sent_to t.mail q ≡ sent_to s.mail q ++ only to q x) → HasMoved view works s t
+    pub has_sent : (to : ℕ) (x : Letter) → next_of (view s.node).face ≡ Send to → (to < (view s.node).face.count) × (to ≢ s.mail.me)
+        → Posts (view s.node) x (view t.node) → t.works ≡ s.works
+        → (t.mail.me ≡ s.mail.me) × (t.mail.ins ≡ s.mail.ins) → ((q : ℕ) → IsPeer s.mail.me q → sent_to t.mail q ≡ sent_to s.mail q
+        ++ only to q x) → HasMoved view works s t
     has_sent to x due other posts same mail put = record {
       acts = Sent to x ∷ [];
       mailed = Sent to x ∷ [];
@@ -111,8 +133,10 @@ module _ {N S : Type 0} (view : N → View S) (works : View S → View S → Typ
       tied = refl;
     }
 
-    pub has_not_sent : (to : ℕ) (x : Letter) → next_of (view s.node).face ≡ Send to → Posts (view s.node) x (view t.node) → t.works ≡ s.works
-        → (t.mail.me ≡ s.mail.me) × (t.mail.ins ≡ s.mail.ins) → ((q : ℕ) → IsPeer s.mail.me q → sent_to t.mail q ≡ sent_to s.mail q) → HasDone view works s (Answers (Err Memory) (view t.node)) t
+    pub has_not_sent : (to : ℕ) (x : Letter) → next_of (view s.node).face ≡ Send to → Posts (view s.node) x (view t.node)
+        → t.works ≡ s.works
+        → (t.mail.me ≡ s.mail.me) × (t.mail.ins ≡ s.mail.ins) → ((q : ℕ) → IsPeer s.mail.me q → sent_to t.mail q ≡ sent_to s.mail q)
+        → HasDone view works s (Answers (Err Memory) (view t.node)) t
     has_not_sent to x due posts same mail put = record {
       acts = Sent to x ∷ [];
       mailed = [];
@@ -123,8 +147,10 @@ module _ {N S : Type 0} (view : N → View S) (works : View S → View S → Typ
       tied = inr (to, x, refl);
     }
 
-    pub has_taken : (from : ℕ) (x : Letter) → next_of (view s.node).face ≡ Take from → (from < (view s.node).face.count) × (from ≢ s.mail.me) → Takes (view s.node) x (view t.node) → t.works ≡ s.works
-        → (t.mail.me ≡ s.mail.me) × (t.mail.outs ≡ s.mail.outs) → ((q : ℕ) → IsPeer s.mail.me q → q ≢ from → polls_of t.mail q ≡ polls_of s.mail q)
+    pub has_taken : (from : ℕ) (x : Letter) → next_of (view s.node).face ≡ Take from → (from < (view s.node).face.count)
+        × (from ≢ s.mail.me) → Takes (view s.node) x (view t.node) → t.works ≡ s.works
+        → (t.mail.me ≡ s.mail.me) × (t.mail.outs ≡ s.mail.outs) → ((q : ℕ) → IsPeer s.mail.me q → q ≢ from
+        → polls_of t.mail q ≡ polls_of s.mail q)
         → ((q : ℕ) → IsPeer s.mail.me q → taken_from t.mail q ≡ taken_from s.mail q ++ only from q x) → HasMoved view works s t
     has_taken from x due other takes same mail rest take = record {
       acts = Took from x ∷ [];
@@ -136,9 +162,12 @@ module _ {N S : Type 0} (view : N → View S) (works : View S → View S → Typ
       tied = refl;
     }
 
-    pub has_polled : (from : ℕ) → next_of (view s.node).face ≡ Take from → IsPeer s.mail.me from → view t.node ≡ view s.node → t.works ≡ s.works
-        → (t.mail.me ≡ s.mail.me) × (t.mail.outs ≡ s.mail.outs) → ((q : ℕ) → IsPeer s.mail.me q → q ≢ from → polls_of t.mail q ≡ polls_of s.mail q)
-        → polls_of t.mail from ≡ polls_of s.mail from + 1 → ((q : ℕ) → IsPeer s.mail.me q → taken_from t.mail q ≡ taken_from s.mail q) → HasPolled view works s t
+    pub has_polled : (from : ℕ) → next_of (view s.node).face ≡ Take from → IsPeer s.mail.me from → view t.node ≡ view s.node
+        → t.works ≡ s.works
+        → (t.mail.me ≡ s.mail.me) × (t.mail.outs ≡ s.mail.outs) → ((q : ℕ) → IsPeer s.mail.me q → q ≢ from
+        → polls_of t.mail q ≡ polls_of s.mail q)
+        → polls_of t.mail from ≡ polls_of s.mail from + 1 → ((q : ℕ) → IsPeer s.mail.me q → taken_from t.mail q ≡ taken_from s.mail q)
+        → HasPolled view works s t
     has_polled from due peer node same mail rest poll take = record {
       moved = record {
         acts = [];
@@ -157,13 +186,17 @@ module _ {N S : Type 0} (view : N → View S) (works : View S → View S → Typ
       poll = poll;
     }
 
-    pub has_strayed : (from : ℕ) (x got : Letter) (wanted : Wanted) → next_of (view s.node).face ≡ Take from → (from < (view s.node).face.count) × (from ≢ s.mail.me)
+    pub has_strayed : (from : ℕ) (x got : Letter) (wanted : Wanted) → next_of (view s.node).face ≡ Take from
+        → (from < (view s.node).face.count) × (from ≢ s.mail.me)
         → IsStray (view s.node) x (Err (IsStrayed wanted got)) (view t.node) → t.works ≡ s.works
-        → (t.mail.me ≡ s.mail.me) × (t.mail.outs ≡ s.mail.outs) → ((q : ℕ) → IsPeer s.mail.me q → q ≢ from → polls_of t.mail q ≡ polls_of s.mail q)
-        → ((q : ℕ) → IsPeer s.mail.me q → taken_from t.mail q ≡ taken_from s.mail q ++ only from q x) → HasDone view works s (Answers (Err (Stray wanted got)) (view t.node)) t
+        → (t.mail.me ≡ s.mail.me) × (t.mail.outs ≡ s.mail.outs) → ((q : ℕ) → IsPeer s.mail.me q → q ≢ from
+        → polls_of t.mail q ≡ polls_of s.mail q)
+        → ((q : ℕ) → IsPeer s.mail.me q → taken_from t.mail q ≡ taken_from s.mail q ++ only from q x)
+        → HasDone view works s (Answers (Err (Stray wanted got)) (view t.node)) t
     has_strayed from x got wanted due other stray same mail rest take =
         let first = is_take (view s.node).face from due in
-        let number : from ≡ stray.3.0 = first_wanted from stray.3.0 first.1.0 wanted first.1.1 stray.3.1 (sym first.1.2 ∙ stray.3.2) in record {
+        let number : from ≡ stray.3.0 = first_wanted from stray.3.0 first.1.0 wanted first.1.1 stray.3.1 (sym first.1.2 ∙ stray.3.2) in
+        record {
           acts = [];
           mailed = Took from x ∷ [];
           follows = stray.2;
@@ -180,31 +213,39 @@ module _ {N S : Type 0} (view : N → View S) (works : View S → View S → Typ
           };
         }
 
-    pub has_strayed_by : (fault : TakeFault) (from : ℕ) (x : Letter) → next_of (view s.node).face ≡ Take from → (from < (view s.node).face.count) × (from ≢ s.mail.me)
+    pub has_strayed_by : (fault : TakeFault) (from : ℕ) (x : Letter) → next_of (view s.node).face ≡ Take from
+        → (from < (view s.node).face.count) × (from ≢ s.mail.me)
         → IsStray (view s.node) x (Err fault) (view t.node) → t.works ≡ s.works
-        → (t.mail.me ≡ s.mail.me) × (t.mail.outs ≡ s.mail.outs) → ((q : ℕ) → IsPeer s.mail.me q → q ≢ from → polls_of t.mail q ≡ polls_of s.mail q)
-        → ((q : ℕ) → IsPeer s.mail.me q → taken_from t.mail q ≡ taken_from s.mail q ++ only from q x) → HasDone view works s (Answers (Err (fault_of fault)) (view t.node)) t
-    has_strayed_by (IsStrayed wanted got) from x due other stray same mail rest take = has_strayed from x got wanted due other stray same mail rest take
+        → (t.mail.me ≡ s.mail.me) × (t.mail.outs ≡ s.mail.outs) → ((q : ℕ) → IsPeer s.mail.me q → q ≢ from
+        → polls_of t.mail q ≡ polls_of s.mail q)
+        → ((q : ℕ) → IsPeer s.mail.me q → taken_from t.mail q ≡ taken_from s.mail q ++ only from q x)
+        → HasDone view works s (Answers (Err (fault_of fault)) (view t.node)) t
+    has_strayed_by (IsStrayed wanted got) from x due other stray same mail rest take = has_strayed from x got wanted due other stray same
+        mail rest take
 
-    pub has_worked : next_of (view s.node).face ≡ Work → works (view s.node) (view t.node) → (view t.node).face.count ≡ (view s.node).face.count → t.mail ≡ s.mail
+    pub has_worked : next_of (view s.node).face ≡ Work → works (view s.node) (view t.node)
+        → (view t.node).face.count ≡ (view s.node).face.count → t.mail ≡ s.mail
         → (s.works + 1 < 2 ^ 64 → t.works ≡ s.works + 1) → HasMoved view works s t
     has_worked due work count mail more = record {
       acts = Worked ∷ [];
       mailed = Worked ∷ [];
       follows = (view t.node, (due, work), refl);
       count = count;
-      mail = subst (λ (k : MailSeat). HasMailed (view s.node).face.count s.mail (Worked ∷ []) k) (sym mail) (mailed_work (view s.node).face.count s.mail);
+      mail = subst (λ (k : MailSeat). HasMailed (view s.node).face.count s.mail (Worked ∷ []) k) (sym mail)
+          (mailed_work (view s.node).face.count s.mail);
       works_are = λ small. more small;
       tied = refl;
     }
 
-    pub has_not_worked : view t.node ≡ view s.node → t.mail ≡ s.mail → t.works ≡ s.works → HasDone view works s (Answers (Err Memory) (view t.node)) t
+    pub has_not_worked : view t.node ≡ view s.node → t.mail ≡ s.mail → t.works ≡ s.works
+        → HasDone view works s (Answers (Err Memory) (view t.node)) t
     has_not_worked node mail same = record {
       acts = [];
       mailed = [];
       follows = node;
       count = ap (λ (k : View S). k.face.count) node;
-      mail = subst (λ (k : MailSeat). HasMailed (view s.node).face.count s.mail [] k) (sym mail) (mailed_none (view s.node).face.count s.mail);
+      mail = subst (λ (k : MailSeat). HasMailed (view s.node).face.count s.mail [] k) (sym mail)
+          (mailed_none (view s.node).face.count s.mail);
       works_are = λ small. omega arith;
       tied = inl refl;
     }
@@ -214,7 +255,8 @@ module _ {N S : Type 0} (view : N → View S) (works : View S → View S → Typ
     pub sets_out : (s : DriveSeat N) → IsReady view queues s → IsOnTheWay view works queues s 0 s
     sets_out s ready = record { ready = ready; moved = done_none s; polled = inl refl }
 
-    pub moves_on : (s t u : DriveSeat N) (n : ℕ) → IsOnTheWay view works queues s n t → IsReady view queues u → HasMoved view works t u → IsOnTheWay view works queues s 0 u
+    pub moves_on : (s t u : DriveSeat N) (n : ℕ) → IsOnTheWay view works queues s n t → IsReady view queues u → HasMoved view works t u
+        → IsOnTheWay view works queues s 0 u
     moves_on s t u n way ready moved = record { ready = ready; moved = then_moved s t u way.moved moved; polled = inl refl }
 
   take_same : (v : View S) (a b : ℕ) → next_of v.face ≡ Take a → next_of v.face ≡ Take b → a ≡ b
@@ -224,12 +266,14 @@ module _ {N S : Type 0} (view : N → View S) (works : View S → View S → Typ
   no_more xs ys [] e same = refl
   no_more xs ys (z ∷ zs) e same = absurd (omega (arith, length-append xs (z ∷ zs), ap length e, ap length same))
 
-  pub waits_on : (queues : Queues) (s t u : DriveSeat N) (n : ℕ) → IsOnTheWay view works queues s n t → IsReady view queues u → HasPolled view works t u → IsOnTheWay view works queues s (n + 1) u
+  pub waits_on : (queues : Queues) (s t u : DriveSeat N) (n : ℕ) → IsOnTheWay view works queues s n t → IsReady view queues u
+      → HasPolled view works t u → IsOnTheWay view works queues s (n + 1) u
   waits_on queues s t u n way ready polled =
       let from = polled.from in
       let peer : IsPeer s.mail.me from = (polled.peer.0, λ e. polled.peer.1 (e ∙ sym way.moved.mail.me)) in
       let moved = then_moved s t u way.moved polled.moved in
-      let kept : taken_from u.mail from ≡ taken_from s.mail from → taken_from t.mail from ≡ taken_from s.mail from = λ e. sym polled.taken ∙ e in
+      let kept : taken_from u.mail from ≡ taken_from s.mail from → taken_from t.mail from ≡ taken_from s.mail from = λ e. sym polled.taken
+      ∙ e in
       let poll = polled.poll in
       record {
         ready = ready;
@@ -238,16 +282,20 @@ module _ {N S : Type 0} (view : N → View S) (works : View S → View S → Typ
           from = from;
           next = ap (λ (k : View S). next_of k.face) polled.same ∙ polled.next;
           least = ⊎_elim (λ (z : n ≡ 0). let r : n + 1 ≤ polls_of u.mail from = omega arith in r)
-              (λ (p : HasWaited view s t n). let x : n ≤ polls_of t.mail from = subst (λ (k : ℕ). n ≤ polls_of t.mail k) (take_same (view t.node) p.from from p.next polled.next) p.least in let r : n + 1 ≤ polls_of u.mail from = omega arith in r)
+              (λ (p : HasWaited view s t n). let x : n ≤ polls_of t.mail from = subst (λ (k : ℕ). n ≤ polls_of t.mail k)
+              (take_same (view t.node) p.from from p.next polled.next) p.least in let r : n + 1 ≤ polls_of u.mail from =
+              omega arith in r)
               way.polled;
           grown = λ e. ⊎_elim
               (λ (z : n ≡ 0).
               let m = way.moved in
-              let none = no_more (taken_from s.mail from) (taken_from t.mail from) (taken_of from m.mailed) (m.mail.taken from peer) (kept e) in
+              let none = no_more (taken_from s.mail from) (taken_from t.mail from) (taken_of from m.mailed) (m.mail.taken from peer)
+              (kept e) in
               let x = m.mail.polls from peer none in
               let r : polls_of s.mail from + (n + 1) ≤ polls_of u.mail from = omega arith in r)
               (λ (p : HasWaited view s t n).
-              let x = subst (λ (k : ℕ). taken_from t.mail k ≡ taken_from s.mail k → polls_of s.mail k + n ≤ polls_of t.mail k) (take_same (view t.node) p.from from p.next polled.next) p.grown (kept e) in
+              let x = subst (λ (k : ℕ). taken_from t.mail k ≡ taken_from s.mail k → polls_of s.mail k + n ≤ polls_of t.mail k)
+              (take_same (view t.node) p.from from p.next polled.next) p.grown (kept e) in
               let r : polls_of s.mail from + (n + 1) ≤ polls_of u.mail from = omega arith in r)
               way.polled;
         };
@@ -257,5 +305,6 @@ module _ {N S : Type 0} (view : N → View S) (works : View S → View S → Typ
   waits_not s t n some p = ⊎_elim (λ (z : n ≡ 0). absurd (omega arith)) (λ (h : HasWaited view s t n). h) p
 
   -- the last step of a drive
-  pub ends_at : (s t u : DriveSeat N) (r : Result Drove DriveFault) → HasMoved view works s t → HasDone view works t (Answers r (view u.node)) u → HasDone view works s (Answers r (view u.node)) u
+  pub ends_at : (s t u : DriveSeat N) (r : Result Drove DriveFault) → HasMoved view works s t
+      → HasDone view works t (Answers r (view u.node)) u → HasDone view works s (Answers r (view u.node)) u
   ends_at s t u r a b = then_done s t u (Answers r (view u.node)) (Answers r (view u.node)) a b (answers_more (view u.node) r)

@@ -1,5 +1,6 @@
 -- What a seat does, one action after another.
-use Rattle.std.proofs.Common.{◌≡◌, ◌≢◌, ℕ, ◌+◌, ◌<◌, ◌≤◌, List, [], ◌∷◌, ◌++◌, ⊎_elim, arith, sym, refl, ap, ◌∙◌, subst, append-nil, append_assoc}
+use Rattle.std.proofs.Common.{◌≡◌, ◌≢◌, ℕ, ◌+◌, ◌<◌, ◌≤◌, List, [], ◌∷◌, ◌++◌, ⊎_elim, arith, sym, refl, ap, ◌∙◌, subst, append-nil}
+use Rattle.std.proofs.Common.{append_assoc}
 use Rattle.std.proofs.lemmas.Bool.{cases_eq}
 use Rattle.std.proofs.lemmas.Bool.Decides.{nat_tests}
 use Rattle.chaos_letter.specs.declared.letter.Letter.{Letter}
@@ -29,10 +30,22 @@ one_taken from x = grind (arith, nat_tests)
 
 -- nothing, a letter put, a letter taken
 pub mailed_none : (count : ℕ) (s : MailSeat) → HasMailed count s [] s
-mailed_none count s = record { me = refl; others = tt; sent = λ q p. sym (append-nil (sent_to s q)); taken = λ q p. sym (append-nil (taken_from s q)); polls = λ q p none. omega arith }
+mailed_none count s = record {
+  me = refl;
+  others = tt;
+  sent = λ q p. sym (append-nil (sent_to s q));
+  taken = λ q p. sym (append-nil (taken_from s q));
+  polls = λ q p none. omega arith;
+}
 
 pub mailed_work : (count : ℕ) (s : MailSeat) → HasMailed count s (Worked ∷ []) s
-mailed_work count s = record { me = refl; others = tt; sent = λ q p. sym (append-nil (sent_to s q)); taken = λ q p. sym (append-nil (taken_from s q)); polls = λ q p none. omega arith }
+mailed_work count s = record {
+  me = refl;
+  others = tt;
+  sent = λ q p. sym (append-nil (sent_to s q));
+  taken = λ q p. sym (append-nil (taken_from s q));
+  polls = λ q p none. omega arith;
+}
 
 pub mailed_put : (count : ℕ) (s t : MailSeat) (to : ℕ) (x : Letter) → (to < count) × (to ≢ s.me) → (t.me ≡ s.me) × (t.ins ≡ s.ins)
     → ((q : ℕ) → IsPeer s.me q → sent_to t q ≡ sent_to s q ++ only to q x) → HasMailed count s (Sent to x ∷ []) t
@@ -44,7 +57,8 @@ mailed_put count s t to x other same put = record {
   polls = λ q p none. same_polls s t same.0 same.1 q;
 }
 
-pub mailed_unput : (count : ℕ) (s t : MailSeat) → (t.me ≡ s.me) × (t.ins ≡ s.ins) → ((q : ℕ) → IsPeer s.me q → sent_to t q ≡ sent_to s q) → HasMailed count s [] t
+pub mailed_unput : (count : ℕ) (s t : MailSeat) → (t.me ≡ s.me) × (t.ins ≡ s.ins) → ((q : ℕ) → IsPeer s.me q → sent_to t q ≡ sent_to s q)
+    → HasMailed count s [] t
 mailed_unput count s t same put = record {
   me = same.0;
   others = tt;
@@ -57,7 +71,8 @@ took_one : (from q : ℕ) (x : Letter) → q ≡ from → taken_of q (Took from 
 took_one from q x is none = let e : x ∷ [] ≡ [] = sym (one_taken from x) ∙ ap (λ k. taken_of k (Took from x ∷ [])) (sym is) ∙ none in cc
 
 pub mailed_take : (count : ℕ) (s t : MailSeat) (from : ℕ) (x : Letter) → (from < count) × (from ≢ s.me) → (t.me ≡ s.me) × (t.outs ≡ s.outs)
-    → ((q : ℕ) → IsPeer s.me q → q ≢ from → polls_of t q ≡ polls_of s q) → ((q : ℕ) → IsPeer s.me q → taken_from t q ≡ taken_from s q ++ only from q x)
+    → ((q : ℕ) → IsPeer s.me q → q ≢ from → polls_of t q ≡ polls_of s q)
+    → ((q : ℕ) → IsPeer s.me q → taken_from t q ≡ taken_from s q ++ only from q x)
     → HasMailed count s (Took from x ∷ []) t
 mailed_take count s t from x other same rest take = record {
   me = same.0;
@@ -67,14 +82,16 @@ mailed_take count s t from x other same rest take = record {
   polls = λ q p none. let e = rest q p (λ is. took_one from q x is none) in omega arith;
 }
 
-pub mailed_poll : (count : ℕ) (s t : MailSeat) (from : ℕ) → (t.me ≡ s.me) × (t.outs ≡ s.outs) → ((q : ℕ) → IsPeer s.me q → q ≢ from → polls_of t q ≡ polls_of s q)
+pub mailed_poll : (count : ℕ) (s t : MailSeat) (from : ℕ) → (t.me ≡ s.me) × (t.outs ≡ s.outs)
+    → ((q : ℕ) → IsPeer s.me q → q ≢ from → polls_of t q ≡ polls_of s q)
     → polls_of t from ≡ polls_of s from + 1 → ((q : ℕ) → IsPeer s.me q → taken_from t q ≡ taken_from s q) → HasMailed count s [] t
 mailed_poll count s t from same rest poll take = record {
   me = same.0;
   others = tt;
   sent = λ q p. same_sent s t same.0 same.1 q ∙ sym (append-nil (sent_to s q));
   taken = λ q p. take q p ∙ sym (append-nil (taken_from s q));
-  polls = λ q p none. ⊎_elim (λ (is : q ≡ from). subst (λ (k : ℕ). polls_of s k ≤ polls_of t k) (sym is) (let e = poll in omega arith)) (λ (no : q ≢ from). let e = rest q p no in omega arith) (cases_eq q from);
+  polls = λ q p none. ⊎_elim (λ (is : q ≡ from). subst (λ (k : ℕ). polls_of s k ≤ polls_of t k) (sym is) (let e = poll in omega arith))
+      (λ (no : q ≢ from). let e = rest q p no in omega arith) (cases_eq q from);
 }
 
 -- several actions
@@ -84,7 +101,8 @@ works_append (Sent to x ∷ xs) ys = works_append xs ys
 works_append (Took from x ∷ xs) ys = works_append xs ys
 works_append (Worked ∷ xs) ys = let e = works_append xs ys in omega arith
 
-others_append : (me count : ℕ) (xs ys : List Act) → AreWithOthers me count xs → AreWithOthers me count ys → AreWithOthers me count (xs ++ ys)
+others_append : (me count : ℕ) (xs ys : List Act) → AreWithOthers me count xs → AreWithOthers me count ys
+    → AreWithOthers me count (xs ++ ys)
 others_append me count [] ys a b = b
 others_append me count (Sent to x ∷ xs) ys a b = (a.0, a.1, others_append me count xs ys a.2 b)
 others_append me count (Took from x ∷ xs) ys a b = (a.0, a.1, others_append me count xs ys a.2 b)
@@ -100,7 +118,8 @@ none_both q xs ys e = none_left (taken_of q xs) (taken_of q ys) (sym (taken_appe
 joined : (a b c d e f : List Letter) → b ≡ a ++ d → c ≡ b ++ e → f ≡ d ++ e → c ≡ a ++ f
 joined a b c d e f p q r = q ∙ ap (λ l. l ++ e) p ∙ append_assoc a d e ∙ ap (λ l. a ++ l) (sym r)
 
-pub mailed_append : (count : ℕ) (s t u : MailSeat) (xs ys : List Act) → HasMailed count s xs t → HasMailed count t ys u → HasMailed count s (xs ++ ys) u
+pub mailed_append : (count : ℕ) (s t u : MailSeat) (xs ys : List Act) → HasMailed count s xs t → HasMailed count t ys u
+    → HasMailed count s (xs ++ ys) u
 mailed_append count s t u xs ys a b =
     let peer : (q : ℕ) → IsPeer s.me q → IsPeer t.me q = λ q p. (p.0, λ e. p.1 (e ∙ a.me)) in record {
       me = b.me ∙ a.me;
@@ -113,12 +132,14 @@ mailed_append count s t u xs ys a b =
 -- nothing was put for a node, or taken from one, that isn't another below the count
 pub none_put : (me count q : ℕ) (xs : List Act) → AreWithOthers me count xs → ((q < count) → (q ≢ me) → ⊥) → put_to q xs ≡ []
 none_put me count q [] a far = refl
-none_put me count q (Sent to x ∷ xs) a far = let t : to ≢ q = λ e. far (subst (λ (k : ℕ). k < count) e a.0) (λ f. a.1 (e ∙ f)) in let e = none_put me count q xs a.2 far in grind (arith, nat_tests)
+none_put me count q (Sent to x ∷ xs) a far = let t : to ≢ q = λ e. far (subst (λ (k : ℕ). k < count) e a.0) (λ f. a.1 (e ∙ f)) in let e =
+    none_put me count q xs a.2 far in grind (arith, nat_tests)
 none_put me count q (Took from x ∷ xs) a far = none_put me count q xs a.2 far
 none_put me count q (Worked ∷ xs) a far = none_put me count q xs a far
 
 pub none_taken : (me count q : ℕ) (xs : List Act) → AreWithOthers me count xs → ((q < count) → (q ≢ me) → ⊥) → taken_of q xs ≡ []
 none_taken me count q [] a far = refl
 none_taken me count q (Sent to x ∷ xs) a far = none_taken me count q xs a.2 far
-none_taken me count q (Took from x ∷ xs) a far = let t : from ≢ q = λ e. far (subst (λ (k : ℕ). k < count) e a.0) (λ f. a.1 (e ∙ f)) in let e = none_taken me count q xs a.2 far in grind (arith, nat_tests)
+none_taken me count q (Took from x ∷ xs) a far = let t : from ≢ q = λ e. far (subst (λ (k : ℕ). k < count) e a.0) (λ f. a.1 (e ∙ f)) in
+    let e = none_taken me count q xs a.2 far in grind (arith, nat_tests)
 none_taken me count q (Worked ∷ xs) a far = none_taken me count q xs a far

@@ -37,7 +37,8 @@ module _ {N S : Type 0} (view : N → View S) where
 
   -- From seat s to seat t the node did `acts`, and the mail seat put and took the letters of `mailed`.
   -- `ended` says how the two are tied.
-  pub record HasDone (works : View S → View S → Type 0) (s : DriveSeat N) (ended : List Act → List Act → Type 0) (t : DriveSeat N) : Type 0 where
+  pub record HasDone (works : View S → View S → Type 0) (s : DriveSeat N) (ended : List Act → List Act → Type 0) (t : DriveSeat N) : Type
+      0 where
     pub acts : List Act
     pub mailed : List Act
     pub follows : Follows works (view s.node) acts (view t.node)

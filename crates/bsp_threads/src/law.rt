@@ -1,10 +1,13 @@
-//! What the prefix law says of a run of all nodes.
-ghost use Rattle.std.specs.Prelude.{◌≡◌, List, map};
-ghost use Rattle.bsp_core.specs.Views.{WorksFor};
+//! What the prefix law says of a run of all nodes, and of its letters.
+ghost use Rattle.std.specs.Prelude.{◌≡◌, ℕ, List, map};
+ghost use Rattle.bsp_core.specs.Views.{View, WorksFor};
 ghost use Rattle.bsp_core.specs.Turns.{Begins};
 ghost use Rattle.bsp_mail.specs.declared.seat.MailSeat.{MailSeat};
+ghost use Rattle.bsp_mail.specs.Mails.{ArePrefixes};
+ghost use Rattle.chaos_letter.specs.declared.letter.Letter.{Letter};
 ghost use Rattle.bsp_threads.specs.declared.seat.Standing.{Standing};
-ghost use Rattle.bsp_threads.specs.Alls.{AreNumbered, HaveRun, IsLawfulRun};
+ghost use Rattle.bsp_threads.specs.Alls.{AreAtEnd, AreEmptyFrom, AreNumbered, AreOfPlan, HaveRun, IsLawfulRun};
+ghost use Rattle.bsp_threads.specs.Due.{AreCut, AreDue, HasLetters};
 
 use bsp_core::{Phased, driven_law, whole_law};
 
@@ -26,3 +29,16 @@ pub fn start_law<N: Phased>()
     ensures { (plan : N.Plan) → N.IsPlan plan → (nodes : List N) →
         Begins (N.rows plan) (N.holds plan) (N.count plan) (map N.view nodes) → AreNumbered N.view nodes }
 {}
+
+/// Where a plan has these letters up to its end, nodes at the plan's end have sent and taken them all, and
+/// what was sent of the plan is of them.
+pub fn due_law<N: Phased>()
+    ensures due { (plan : N.Plan) → N.IsPlan plan → (due : ℕ → ℕ → List Letter) → HasLetters (N.rows plan) (N.count plan) due →
+        (views : List (View N.State)) (mails : List MailSeat) → AreAtEnd (N.rows plan) (N.holds plan) (N.count plan) views mails →
+        AreEmptyFrom (N.count plan) mails → AreDue (N.count plan) due mails }
+    ensures cut { (plan : N.Plan) → N.IsPlan plan → (due : ℕ → ℕ → List Letter) → HasLetters (N.rows plan) (N.count plan) due →
+        (mails : List MailSeat) → AreOfPlan (N.rows plan) (N.count plan) mails → ArePrefixes mails →
+        AreEmptyFrom (N.count plan) mails → AreCut (N.count plan) due mails }
+{
+    whole_law::<N>();
+}

@@ -19,4 +19,5 @@ mod step;
 pub use all::drive_all;
 pub use driving::drive;
 pub use drove::{DriveFault, Drove};
+pub use law::due_law;
 pub use seat::{DriveSeat, Standing};

@@ -1,5 +1,5 @@
-use bsp_core::Played;
 use chaos_letter::Letter;
+use fd_top::Played;
 use fd_words::Memory;
 use std::alloc::Global;
 

@@ -8,6 +8,8 @@
 //!   and the text of the nodes in turns, or of one machine, come; for `count` also the number of moves, for `moves` the
 //!   node of each move, and for `letters` each letter that a node sent to another.
 //! - `run`: likewise, of the nodes by threads.
+//! - `append`, `bisect`: a line of words and a line of data files. The status and the text of the program that appends
+//!   particles, or that bisects elements, come.
 //!
 //! The modules `text` and `call` say how sources and data files are written.
 #![tactic(auto)]
@@ -19,7 +21,7 @@ mod source;
 mod text;
 
 use fd_words::Memory;
-use play::{Shown, play, run};
+use play::{Program, Shown, play, run};
 use source::refusal;
 use std::alloc::Global;
 use std::io;
@@ -38,7 +40,9 @@ fn told<R: Threads + Wait + Sync>(rt: &R, alloc: Global, case: &str) -> Result<S
         "count" => play(alloc, rest, Shown::Count, &mut told)?,
         "moves" => play(alloc, rest, Shown::Moves, &mut told)?,
         "letters" => play(alloc, rest, Shown::Letters, &mut told)?,
-        "run" => run(rt, alloc, rest, &mut told)?,
+        "run" => run(rt, alloc, Program::Run, rest, &mut told)?,
+        "append" => run(rt, alloc, Program::Append, rest, &mut told)?,
+        "bisect" => run(rt, alloc, Program::Bisect, rest, &mut told)?,
         _ => told.push_str("no such call\n")?,
     }
     Ok(told)

@@ -1,10 +1,10 @@
 use crate::call::{append_written, files_of, sink, words_of};
 use crate::letters::{append_count, append_letters, append_moves};
 use crate::text::first_line;
-use bsp_core::Played;
-use bsp_mail::Mail;
-use fd_outside::OpenGate;
-use fd_top::{play_program, run_program};
+use chaos_append::append_program;
+use chaos_rcb::bisect_program;
+use fd_outside::{MemoryFiles, MemorySink};
+use fd_top::{Mail, OpenGate, Played, play_program, run_program};
 use fd_words::Memory;
 use std::alloc::Global;
 use std::sync::Wait;
@@ -55,10 +55,37 @@ pub(crate) fn play(
     append_played(alloc, told, shown, &played)
 }
 
+/// A program whose nodes are driven by threads.
+#[derive(Clone, Copy)]
+pub(crate) enum Program {
+    Run,
+    Append,
+    Bisect,
+}
+
+/// The status of a program's call.
+fn called<R: Threads + Wait + Sync>(
+    rt: &R,
+    alloc: Global,
+    program: Program,
+    words: &[String],
+    files: &mut MemoryFiles,
+    out: &mut MemorySink,
+) -> Result<u8, Memory> {
+    let mut mail = Mail::new(alloc)?;
+    let gate = &OpenGate;
+    Ok(match program {
+        Program::Run => run_program(rt, alloc, words, files, out, gate, &mut mail),
+        Program::Append => append_program(rt, alloc, words, files, out, gate, &mut mail),
+        Program::Bisect => bisect_program(rt, alloc, words, files, out, gate, &mut mail),
+    })
+}
+
 /// What comes of nodes by threads.
 pub(crate) fn run<R: Threads + Wait + Sync>(
     rt: &R,
     alloc: Global,
+    program: Program,
     lines: &str,
     told: &mut String,
 ) -> Result<(), Memory> {
@@ -66,15 +93,6 @@ pub(crate) fn run<R: Threads + Wait + Sync>(
     let words = words_of(alloc, words)?;
     let mut files = files_of(alloc, rest)?;
     let mut out = sink(alloc)?;
-    let mut mail = Mail::new(alloc)?;
-    let status = run_program(
-        rt,
-        alloc,
-        words.as_slice(),
-        &mut files,
-        &mut out,
-        &OpenGate,
-        &mut mail,
-    );
+    let status = called(rt, alloc, program, words.as_slice(), &mut files, &mut out)?;
     append_end(alloc, told, status, out.written())
 }

@@ -1,5 +1,6 @@
 -- What is kept of the loops, and whether an execution inspects.
-use Rattle.std.proofs.Common.{◌≡◌, refl, ℕ, zero, suc, ◌+◌, ◌<◌, Bool, true, false, List, [], ◌∷◌, length, Option, Some, None, ap, sym, subst, ◌∙◌, arith}
+use Rattle.std.proofs.Common.{◌≡◌, refl, ℕ, zero, suc, ◌+◌, ◌<◌, Bool, true, false, List, [], ◌∷◌, length, Option, Some, None, ap, sym}
+use Rattle.std.proofs.Common.{subst, ◌∙◌, arith}
 use Rattle.std.specs.Prelude.{IsSomeAnd, MatchOption, if◌then◌else◌, not, ◌&&◌, slice_get}
 use Rattle.std.specs.List.{AllZip, range_with_len}
 use Rattle.std.specs.Option.{option_map, option_and_then}
@@ -7,12 +8,12 @@ use Rattle.chaos_dist.specs.Counting.{below}
 use Rattle.chaos_facts.proofs.Exact.{facts_are_exact}
 use Rattle.chaos_facts.proofs.Owned.{run_has_owners}
 use Rattle.chaos_facts.specs.Facts.{facts_in}
-use Rattle.chaos_reach.specs.Accepted.{AreOwners}
+use Rattle.inspect_uses.specs.Accepted.{AreOwners}
 use Rattle.chaos_records.proofs.Kept.{inspections_are_known, records_are_exact}
 use Rattle.chaos_records.specs.Keeping.{Keeps, differs, record_in}
-use Rattle.chaos_run.specs.Held.{Held, KeepsLatest, KeepsLoop}
-use Rattle.chaos_run.specs.StandLaws.{zip_weaker}
-use Rattle.chaos_run.specs.declared.kept.Kept.{Kept}
+use Rattle.plan_run.specs.Held.{Held, KeepsLatest, KeepsLoop}
+use Rattle.plan_run.specs.StandLaws.{zip_weaker}
+use Rattle.plan_run.specs.declared.kept.Kept.{Kept}
 use Rattle.fd_program.specs.Layouts.{Scene, loop_at, owners_at}
 use Rattle.fd_program.specs.Past.{inspects_at, latest_of, record_at}
 use Rattle.fd_program.specs.Trace.{is_empty_turn}
@@ -24,21 +25,24 @@ use Rattle.fd_program.specs.declared.trace.Step.TheVariants.{Forall}
 use Rattle.chaos_begin.specs.Begins.{BeginsInspection, BeginsLoop, HasLatest, IsBetween, IsLoopAt, LatestAreKept, latest_in, latest_kept}
 use Rattle.chaos_begin.specs.BeginsLaws.{KeptAreLatest, StagesAreBegun}
 use Rattle.chaos_begin.specs.declared.begun.Begun.TheVariants as begun
-use Rattle.chaos_run.specs.Phases.{loop_stages, moving_stages, stages_of}
+use Rattle.plan_run.specs.Phases.{loop_stages, moving_stages, stages_of}
 use Rattle.chaos_begin.specs.declared.between.Between.{Between}
 
 pub kept_are_latest : KeptAreLatest
 kept_are_latest s past p tables kept h =
-    zip_weaker (λ k x. KeepsLoop s past k p tables x) (HasLatest s.checked past) (λ k x held. by k (latest_of past k) x held) (below (length s.checked.sites)) kept h
+    zip_weaker (λ k x. KeepsLoop s past k p tables x) (HasLatest s.checked past) (λ k x held. by k (latest_of past k) x held)
+    (below (length s.checked.sites)) kept h
   where
-    by : (k : ℕ) (o : Option (LoopTurn × List Step)) (x : Option Kept) → MatchOption o (x ≡ None) (λ latest. IsSomeAnd x (KeepsLatest s past k p tables latest))
+    by : (k : ℕ) (o : Option (LoopTurn × List Step)) (x : Option Kept)
+        → MatchOption o (x ≡ None) (λ latest. IsSomeAnd x (KeepsLatest s past k p tables latest))
         → latest_kept x ≡ option_map (λ (latest, before). record_at s.checked before k latest) o
     by k None x h = ap latest_kept h
     by k (Some (turn, before)) None h = absurd h
     by k (Some (turn, before)) (Some x) h = ap Some h.0
 
 -- the one of a FORALL
-kept_at : {B : Type 0} (P : ℕ → B → Type 0) (a n k : ℕ) (ys : List B) → k < n → AllZip P (range_with_len a n) ys → (y : B) × (slice_get ys k ≡ Some y) × P (a + k) y
+kept_at : {B : Type 0} (P : ℕ → B → Type 0) (a n k : ℕ) (ys : List B) → k < n → AllZip P (range_with_len a n) ys → (y : B)
+    × (slice_get ys k ≡ Some y) × P (a + k) y
 kept_at P a zero k ys less h = absurd (omega (arith, less))
 kept_at P a (suc n) k [] less h = absurd h
 kept_at P a (suc n) zero (y ∷ ys) less h =
@@ -64,7 +68,8 @@ inspects_known s past v b site turn h less some =
     ap (λ c. differs (record_in b.records.now c site turn) (latest_in b.kept.now site)) (sym h.checked)
     ∙ ap (λ r. differs r (latest_in b.kept.now site)) (records_are_exact c past site turn b.records.now keeps)
     ∙ ap (differs (record_at c past site turn)) (latest_found c past b.kept.now site h.kept less)
-    ∙ ap (λ e. not e && differs (record_at c past site turn) (option_map (λ (latest, before). record_at c before site latest) (latest_of past site))) (sym some)
+    ∙ ap (λ e. not e && differs (record_at c past site turn) (option_map (λ (latest, before). record_at c before site latest)
+    (latest_of past site))) (sym some)
     ∙ sym (inspections_are_known c past site turn)
 
 -- ---- what a FORALL begins with
@@ -79,8 +84,10 @@ facts_known s past v b site turn h =
     ∙ ap (λ rule. facts_in s.checked s.nodes rule r site turn) (sym h.rule)
     ∙ facts_are_exact s.checked s.nodes s.rule past r site turn h.run.steps keeps
 
-pub inspection_begins : (s : Scene) (past : List Step) (v : Held) (b : Between) (site : ℕ) (turn : LoopTurn) (does : Bool) (f : LoopFacts) → IsBetween s past v b
-    → f ≡ facts_in b.checked.now b.nodes b.rule b.records.now site turn → does ≡ true → IsLoopAt s past site turn does → BeginsInspection s past (Forall site turn) f
+pub inspection_begins : (s : Scene) (past : List Step) (v : Held) (b : Between) (site : ℕ) (turn : LoopTurn) (does : Bool) (f : LoopFacts)
+    → IsBetween s past v b
+    → f ≡ facts_in b.checked.now b.nodes b.rule b.records.now site turn → does ≡ true → IsLoopAt s past site turn does
+    → BeginsInspection s past (Forall site turn) f
 inspection_begins s past v b site turn does f h e is at =
     let same = e ∙ facts_known s past v b site turn h in
     record {
@@ -89,7 +96,8 @@ inspection_begins s past v b site turn does f h e is at =
       owners = subst (λ f. AreOwners f (owners_at s past)) (sym same) (run_has_owners s past site turn h.run);
     }
 
-pub execution_begins : (s : Scene) (past : List Step) (site : ℕ) (turn : LoopTurn) (does : Bool) → does ≡ false → IsLoopAt s past site turn does → BeginsLoop s past (Forall site turn) false
+pub execution_begins : (s : Scene) (past : List Step) (site : ℕ) (turn : LoopTurn) (does : Bool) → does ≡ false
+    → IsLoopAt s past site turn does → BeginsLoop s past (Forall site turn) false
 execution_begins s past site turn does is at = record { site = site; turn = turn; is = refl; at = subst (IsLoopAt s past site turn) is at }
 
 pub loop_is_at : (s : Scene) (past : List Step) (v : Held) (b : Between) (site : ℕ) (turn : LoopTurn) (does : Bool) → IsBetween s past v b

@@ -1,5 +1,6 @@
 -- Lists of the numbers that pass a test.
-use Rattle.std.proofs.Common.{◌≡◌, refl, ℕ, zero, suc, ◌+◌, ◌-◌, ◌<◌, ◌≤◌, Bool, true, false, List, [], ◌∷◌, ◌++◌, length, map, filter, ap, sym, ◌∙◌, arith, append_assoc}
+use Rattle.std.proofs.Common.{◌≡◌, refl, ℕ, zero, suc, ◌+◌, ◌-◌, ◌<◌, ◌≤◌, Bool, true, false, List, [], ◌∷◌, ◌++◌, length, map, filter, ap}
+use Rattle.std.proofs.Common.{sym, ◌∙◌, arith, append_assoc}
 use Rattle.std.specs.Prelude.{All, ◌≤ℤ◌, ◌&&◌, ℤ, pos, int_le, if◌then◌else◌, Option, Some, None, IsSomeAnd, MatchOption}
 use Rattle.std.proofs.lemmas.Int.{ints}
 use Rattle.std.proofs.lemmas.Bool.Decides.{nat_tests}
@@ -30,7 +31,8 @@ picked_kept {B} p f out more n d is all less e1 e2 h =
     rest : List B
     rest = map f (filter p (range_with_len (d + 1) (n - (d + 1))))
 
-    by : (b : Bool) → map f (if b then d ∷ filter p (range_with_len (d + 1) (n - (d + 1))) else filter p (range_with_len (d + 1) (n - (d + 1))))
+    by : (b : Bool) → map f (if b then d ∷ filter p (range_with_len (d + 1) (n - (d + 1)))
+        else filter p (range_with_len (d + 1) (n - (d + 1))))
         ≡ given_if b (f d) ++ rest
     by true = refl
     by false = refl
@@ -63,13 +65,17 @@ element_within : (extent g : ℕ) → 1 ≤ g → g ≤ extent → is_element ex
 element_within extent g least most = grind (arith, ints, nat_tests, least, most)
 
 -- numbers from a on, up to the extent
-pub range_within : (extent : ℕ) (keep : ℕ → Bool) (a n : ℕ) → 1 ≤ a → a + n ≤ extent + 1 → list_all (is_element extent) (map pos (filter keep (range_with_len a n))) ≡ true
+pub range_within : (extent : ℕ) (keep : ℕ → Bool) (a n : ℕ) → 1 ≤ a → a + n ≤ extent + 1
+    → list_all (is_element extent) (map pos (filter keep (range_with_len a n))) ≡ true
 range_within extent keep a zero least most = refl
 range_within extent keep a (suc n) least most =
-    by (keep a) (range_within extent keep (a + 1) n (omega (arith, least)) (omega (arith, most))) (element_within extent a least (omega (arith, most)))
+    by (keep a) (range_within extent keep (a + 1) n (omega (arith, least)) (omega (arith, most)))
+    (element_within extent a least (omega (arith, most)))
   where
-    by : (b : Bool) → list_all (is_element extent) (map pos (filter keep (range_with_len (a + 1) n))) ≡ true → is_element extent (pos a) ≡ true
-        → list_all (is_element extent) (map pos (if b then a ∷ filter keep (range_with_len (a + 1) n) else filter keep (range_with_len (a + 1) n))) ≡ true
+    by : (b : Bool) → list_all (is_element extent) (map pos (filter keep (range_with_len (a + 1) n))) ≡ true
+        → is_element extent (pos a) ≡ true
+        → list_all (is_element extent)
+        (map pos (if b then a ∷ filter keep (range_with_len (a + 1) n) else filter keep (range_with_len (a + 1) n))) ≡ true
     by true rest first = ap (λ b. b && list_all (is_element extent) (map pos (filter keep (range_with_len (a + 1) n)))) first ∙ rest
     by false rest first = rest
 

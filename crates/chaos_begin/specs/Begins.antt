@@ -15,13 +15,13 @@ use Rattle.chaos_moving.specs.IsMoving.{HasMap, HasShare, IsMoving}
 use Rattle.chaos_moving.specs.Stages.{left_in}
 use Rattle.chaos_moving.specs.declared.moving.Moving.{Moving}
 use Rattle.chaos_moving.specs.declared.share.Share.{Share}
-use Rattle.chaos_reach.specs.Accepted.{AreOwners, IsAccepted}
-use Rattle.chaos_run.specs.Held.{Held, Stands}
-use Rattle.chaos_run.specs.Phases.{arrays_in, loop_stages, moving_stages}
-use Rattle.chaos_run.specs.declared.kept.Kept.{Kept}
-use Rattle.chaos_run.specs.declared.stage.Stage.{Stage}
-use Rattle.chaos_run.specs.declared.stage.Stage.TheVariants as stage
-use Rattle.chaos_phases.specs.LoopLetters.{executor_phases}
+use Rattle.inspect_uses.specs.Accepted.{AreOwners, IsAccepted}
+use Rattle.plan_run.specs.Held.{Held, Stands}
+use Rattle.plan_run.specs.Phases.{arrays_in, loop_stages, moving_stages}
+use Rattle.plan_run.specs.declared.kept.Kept.{Kept}
+use Rattle.plan_run.specs.declared.stage.Stage.{Stage}
+use Rattle.plan_run.specs.declared.stage.Stage.TheVariants as stage
+use Rattle.plan_loop.specs.LoopLetters.{executor_phases}
 use Rattle.fd_program.specs.Checks.{IsChecked}
 use Rattle.fd_program.specs.Layouts.{Scene, loop_at, mapped_owners, owners_at, store_at}
 use Rattle.fd_program.specs.Past.{inspects_at, is_repeat, latest_of, record_at}
@@ -98,7 +98,8 @@ pub record IsShareOf (b : Between) (d extent : ℕ) (share : Share) : Type 0 whe
 
 -- the decomposition is there, and what is held of it are elements
 abbrev pub has_share : Between → ℕ → Bool
-has_share b d = option_map_or (λ (l : LayoutName). list_all (is_element l.extent) (list_at b.elements.now d)) (slice_get b.checked.now.layouts d) false
+has_share b d = option_map_or (λ (l : LayoutName). list_all (is_element l.extent) (list_at b.elements.now d))
+    (slice_get b.checked.now.layouts d) false
 
 -- ---- a move
 

@@ -1,9 +1,9 @@
 -- The records that are kept are those of the latest executions, and what is begun has the stages of its step.
 use Rattle.std.specs.Prelude.{◌≡◌, ℕ, List, Option}
 use Rattle.chaos_hash.specs.Stamps.{Stamps}
-use Rattle.chaos_run.specs.Held.{EachLoop, KeepsLoop}
-use Rattle.chaos_run.specs.declared.kept.Kept.{Kept}
-use Rattle.chaos_run.specs.Phases.{stages_of}
+use Rattle.plan_run.specs.Held.{EachLoop, KeepsLoop}
+use Rattle.plan_run.specs.declared.kept.Kept.{Kept}
+use Rattle.plan_run.specs.Phases.{stages_of}
 use Rattle.fd_program.specs.Layouts.{Scene}
 use Rattle.fd_program.specs.declared.trace.Step.{Step}
 use Rattle.chaos_begin.specs.Begins.{IsBegun, LatestAreKept, stages_begun}

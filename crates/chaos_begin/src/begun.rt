@@ -1,9 +1,9 @@
 ghost use Rattle.std.specs.Prelude.{◌≡◌, ◌<◌, ◌≤ℤ◌, [], List, length, IfOk, IfSome, IsSomeAnd, MatchOption};
 ghost use Rattle.std.specs.Option.{option_map};
 ghost use Rattle.chaos_begin.specs.declared.begun.Begun.TheVariants as begun;
-ghost use Rattle.chaos_facts.specs.FactsLaws.{IsStepIn};
-ghost use Rattle.chaos_run.specs.Held.{Held};
-ghost use Rattle.chaos_run.specs.Phases.{stages_of};
+ghost use Rattle.fd_program.specs.StepLaws.{IsStepIn};
+ghost use Rattle.plan_run.specs.Held.{Held};
+ghost use Rattle.plan_run.specs.Phases.{stages_of};
 ghost use Rattle.fd_program.specs.Layouts.{Scene};
 ghost use Rattle.fd_program.specs.Trace.{is_empty_turn};
 ghost use Rattle.fd_program.specs.declared.trace.Step.{Step};
@@ -45,8 +45,10 @@ fn distribute(
     form: StepForm,
 ) -> Result<Option<Begun>, Memory>
     requires { IsSound between.now }
-    ensures begun { IfOk result (λ o. (s : Scene) (past : List Step) (v : Held) → IsBetween s past v between.now → IsStepIn s.checked (Distribute d form)
-        → MatchOption o (stages_of s.checked s.nodes s.rule past (Distribute d form) ≡ []) (IsBegun s past (Distribute d form) between.now.me)) }
+    ensures begun { IfOk result (λ o. (s : Scene) (past : List Step) (v : Held) → IsBetween s past v between.now
+        → IsStepIn s.checked (Distribute d form)
+        → MatchOption o (stages_of s.checked s.nodes s.rule past (Distribute d form) ≡ [])
+        (IsBegun s past (Distribute d form) between.now.me)) }
     ensures plain { IfOk result (λ o. IfSome o (IsPlain between.now)) }
 {
     if between.records.is_repeat(d, form) {
@@ -70,8 +72,10 @@ fn execute(
     turn: &LoopTurn,
 ) -> Result<Option<Begun>, Memory>
     requires { IsSound between.now }
-    ensures begun { IfOk result (λ o. (s : Scene) (past : List Step) (v : Held) → IsBetween s past v between.now → IsStepIn s.checked (Forall site turn.now)
-        → MatchOption o (stages_of s.checked s.nodes s.rule past (Forall site turn.now) ≡ []) (IsBegun s past (Forall site turn.now) between.now.me)) }
+    ensures begun { IfOk result (λ o. (s : Scene) (past : List Step) (v : Held) → IsBetween s past v between.now
+        → IsStepIn s.checked (Forall site turn.now)
+        → MatchOption o (stages_of s.checked s.nodes s.rule past (Forall site turn.now) ≡ [])
+        (IsBegun s past (Forall site turn.now) between.now.me)) }
     ensures plain { IfOk result (λ o. IfSome o (IsPlain between.now)) }
 {
     if between.checked.sites.len() <= site as usize {
@@ -95,7 +99,8 @@ fn loop_begun(
     requires sound { IsSound between.now }
     requires site { site < length between.now.checked.now.sites }
     requires range { turn.now.low ≤ℤ turn.now.high }
-    ensures begun { IfOk result (λ o. (s : Scene) (past : List Step) (v : Held) → IsBetween s past v between.now → IsLoopAt s past site turn.now does
+    ensures begun { IfOk result (λ o. (s : Scene) (past : List Step) (v : Held) → IsBetween s past v between.now
+        → IsLoopAt s past site turn.now does
         → IsSomeAnd o (IsBegun s past (Forall site turn.now) between.now.me)) }
     ensures plain { IfOk result (λ o. IfSome o (IsPlain between.now)) }
 {
@@ -111,7 +116,8 @@ fn loop_begun(
 /// with an empty range. Linear in what is held of the decomposition, or in the program.
 pub fn begin(alloc: Global, between: &Between, step: &Step) -> Result<Option<Begun>, Memory>
     requires { IsSound between.now }
-    ensures begun { IfOk result (λ o. (s : Scene) (past : List Step) (v : Held) → IsBetween s past v between.now → IsStepIn s.checked step.now
+    ensures begun { IfOk result (λ o. (s : Scene) (past : List Step) (v : Held) → IsBetween s past v between.now
+        → IsStepIn s.checked step.now
         → MatchOption o (stages_of s.checked s.nodes s.rule past step.now ≡ []) (IsBegun s past step.now between.now.me)) }
     ensures plain { IfOk result (λ o. IfSome o (IsPlain between.now)) }
 {

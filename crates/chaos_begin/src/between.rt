@@ -1,7 +1,7 @@
 use chaos_records::Records;
-use chaos_run::Kept;
 use fd_program::{Checked, HomeRule};
 use fd_words::NumberLists;
+use plan_run::Kept;
 
 /// What a node holds between two steps, as far as the next one begins with it: the program, the number of
 /// nodes, the rule for homes, the node's number; the elements of each decomposition that it has; the local

@@ -7,9 +7,9 @@ ghost use Rattle.chaos_begin.specs.Begins.{IsFit, IsSound, latest_in};
 use crate::Between;
 use chaos_facts::{facts_are_known, facts_of};
 use chaos_records::{LoopRecord, must_inspect};
-use chaos_run::Kept;
 use fd_program::{LoopFacts, LoopTurn};
 use fd_words::Memory;
+use plan_run::Kept;
 use std::alloc::Global;
 
 /// The record that is kept of a FORALL.
@@ -34,7 +34,8 @@ pub fn inspects(
 ) -> Result<bool, Memory>
     requires sound { IsSound between.now }
     requires site { site < length between.now.checked.now.sites }
-    ensures { IfOk result (λ is. is ≡ differs (record_in between.now.records.now between.now.checked.now site turn.now) (latest_in between.now.kept.now site)) }
+    ensures { IfOk result (λ is. is ≡ differs (record_in between.now.records.now between.now.checked.now site turn.now)
+        (latest_in between.now.kept.now site)) }
 {
     let now = between
         .records
@@ -52,7 +53,8 @@ pub fn loop_facts(
     requires sound { IsSound between.now }
     requires site { site < length between.now.checked.now.sites }
     requires range { turn.now.low ≤ℤ turn.now.high }
-    ensures facts { IfOk result (λ f. f ≡ facts_in between.now.checked.now between.now.nodes between.now.rule between.now.records.now site turn.now) }
+    ensures facts { IfOk result (λ f. f ≡ facts_in between.now.checked.now between.now.nodes between.now.rule between.now.records.now site
+        turn.now) }
     ensures fit { IfOk result (IsFit between.now) }
 {
     facts_are_known();

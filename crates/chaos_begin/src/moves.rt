@@ -1,8 +1,8 @@
 ghost use Rattle.std.specs.Prelude.{◌≡◌, ℕ, List, IfOk, IfSome, IsSomeAnd, MatchOption};
 ghost use Rattle.chaos_dist.specs.Homes.{natural};
 ghost use Rattle.chaos_dist.specs.Layout.{given_size};
-ghost use Rattle.chaos_facts.specs.FactsLaws.{IsStepIn};
-ghost use Rattle.chaos_run.specs.Held.{Held};
+ghost use Rattle.fd_program.specs.StepLaws.{IsStepIn};
+ghost use Rattle.plan_run.specs.Held.{Held};
 ghost use Rattle.fd_program.specs.Checks.{layout_extent};
 ghost use Rattle.fd_program.specs.Layouts.{Scene};
 ghost use Rattle.fd_program.specs.declared.trace.Step.{Step};
@@ -10,9 +10,10 @@ ghost use Rattle.fd_program.specs.declared.trace.Step.TheVariants.{Distribute};
 ghost use Rattle.chaos_begin.specs.Begins.{IsBetween, IsByMap, IsByShape, IsFitMove, IsMoveIn, IsMoveOf, IsShareOf, IsSound};
 
 use crate::Between;
-use crate::share::{copy_at, facts_at, share_of};
+use crate::share::{copy_at, share_of};
 use chaos_dist::{Shape, StepForm};
 use chaos_moving::{Moving, Share};
+use fd_program::array_at;
 use fd_words::Memory;
 use std::alloc::Global;
 
@@ -47,7 +48,7 @@ fn by_shape(alloc: Global, share: Share, shape: Shape) -> Result<Option<Moving>,
 fn by_map(alloc: Global, between: &Between, share: Share, array: u32) -> Result<Moving, Memory>
     ensures { IfOk result (IsByMap between.now share array) }
 {
-    let facts = facts_at(between.checked.arrays.as_slice(), array);
+    let facts = array_at(between.checked.arrays.as_slice(), array);
     let elements = copy_at(alloc, between.elements, facts.decomposition)?;
     let values = copy_at(alloc, between.parts, array)?;
     let offset = natural_of(facts.offset);
@@ -61,8 +62,10 @@ fn by_form(
     form: StepForm,
 ) -> Result<Option<Moving>, Memory>
     requires sound { IsSound between.now }
-    ensures begun { IfOk result (λ o. (s : Scene) (past : List Step) (v : Held) (d : ℕ) → IsBetween s past v between.now → IsStepIn s.checked (Distribute d form)
-        → IsShareOf between.now d (layout_extent between.now.checked.now.layouts d) share → IsSomeAnd o (IsMoveIn s past between.now.me d form)) }
+    ensures begun { IfOk result (λ o. (s : Scene) (past : List Step) (v : Held) (d : ℕ) → IsBetween s past v between.now
+        → IsStepIn s.checked (Distribute d form)
+        → IsShareOf between.now d (layout_extent between.now.checked.now.layouts d) share
+        → IsSomeAnd o (IsMoveIn s past between.now.me d form)) }
     ensures plain { IfOk result (λ o. IfSome o (IsMoveOf share form)) }
 {
     match form {
@@ -81,8 +84,10 @@ fn with_share(
     form: StepForm,
 ) -> Result<Option<Moving>, Memory>
     requires sound { IsSound between.now }
-    ensures begun { IfOk result (λ o. (s : Scene) (past : List Step) (v : Held) (d : ℕ) → IsBetween s past v between.now → IsStepIn s.checked (Distribute d form)
-        → IsSomeAnd share (IsShareOf between.now d (layout_extent between.now.checked.now.layouts d)) → IsSomeAnd o (IsMoveIn s past between.now.me d form)) }
+    ensures begun { IfOk result (λ o. (s : Scene) (past : List Step) (v : Held) (d : ℕ) → IsBetween s past v between.now
+        → IsStepIn s.checked (Distribute d form)
+        → IsSomeAnd share (IsShareOf between.now d (layout_extent between.now.checked.now.layouts d))
+        → IsSomeAnd o (IsMoveIn s past between.now.me d form)) }
     ensures plain { IfOk result (λ o. IfSome o (λ m. IsSomeAnd share (λ x. IsMoveOf x form m))) }
 {
     match share {
@@ -100,7 +105,8 @@ pub fn move_to(
     form: StepForm,
 ) -> Result<Option<Moving>, Memory>
     requires sound { IsSound between.now }
-    ensures begun { IfOk result (λ o. (s : Scene) (past : List Step) (v : Held) → IsBetween s past v between.now → IsStepIn s.checked (Distribute d form)
+    ensures begun { IfOk result (λ o. (s : Scene) (past : List Step) (v : Held) → IsBetween s past v between.now
+        → IsStepIn s.checked (Distribute d form)
         → IsSomeAnd o (IsMoveIn s past between.now.me d form)) }
     ensures plain { IfOk result (λ o. IfSome o (IsFitMove between.now)) }
 {

@@ -1,16 +1,16 @@
-ghost use Rattle.std.specs.Prelude.{◌≡◌, ◌<◌, ◌≤◌, ◌++◌, ◌∷◌, [], ◌==◌, true, false, if◌then◌else◌, filter, length, map, IfOk, OnOk, MatchOption};
+ghost use Rattle.std.specs.Prelude.{◌≡◌, ◌<◌, ◌≤◌, ◌++◌, ◌∷◌, [], ◌==◌, true, false, if◌then◌else◌, filter, length, map, IfOk, OnOk};
+ghost use Rattle.std.specs.Prelude.{MatchOption};
 ghost use Rattle.std.specs.List.{list_all};
 ghost use Rattle.chaos_dist.specs.Counting.{below};
 ghost use Rattle.fd_words.specs.Lists.{list_at};
 ghost use Rattle.fd_program.specs.Places.{decomposition_of};
-ghost use Rattle.fd_program.specs.Stores.{array_at};
 ghost use Rattle.chaos_begin.specs.Begins.{IsShareOf, IsSound, has_share, is_element};
 ghost use Rattle.fd_program.specs.Checks.{layout_extent};
 
 use crate::Between;
 use chaos_moving::Share;
-use fd_program::ArrayFacts;
-use fd_words::{Memory, Name, NumberLists, Numbers};
+use fd_program::{ArrayFacts, array_at};
+use fd_words::{Memory, NumberLists, Numbers};
 use std::alloc::Global;
 
 /// A copy of the list at a place; no number from the end on.
@@ -20,21 +20,6 @@ pub fn copy_at(alloc: Global, lists: &NumberLists, at: u32) -> Result<Numbers, M
     match lists.get(u64::from(at)) {
         Some(list) => list.copy(alloc),
         None => Ok(Numbers::new(alloc)),
-    }
-}
-
-/// The array with a number; one without elements where there is none.
-pub fn facts_at(arrays: &[ArrayFacts], array: u32) -> ArrayFacts
-    ensures { result ≡ array_at arrays.now array }
-{
-    match arrays.get(array as usize) {
-        Some(facts) => *facts,
-        None => ArrayFacts {
-            name: Name::new(),
-            extent: 0,
-            decomposition: 0,
-            offset: 0,
-        },
     }
 }
 
@@ -73,11 +58,12 @@ fn pieces(
     lists: &NumberLists,
     d: u32,
 ) -> Result<NumberLists, Memory>
-    ensures { IfOk result (λ pieces. pieces ≡ map (λ array. list_at lists.now array) (filter (λ array. decomposition_of arrays.now array == d) (below count))) }
+    ensures { IfOk result (λ pieces. pieces ≡ map (λ array. list_at lists.now array)
+        (filter (λ array. decomposition_of arrays.now array == d) (below count))) }
 {
     let mut pieces = NumberLists::new(alloc);
     for array in 0..count {
-        let is = facts_at(arrays, array).decomposition == d;
+        let is = array_at(arrays, array).decomposition == d;
         add_if(alloc, &mut pieces, is, lists, array)?;
     }
     Ok(pieces)
@@ -120,7 +106,8 @@ fn share_within(
     requires there { d < length between.now.checked.now.layouts }
     requires some { 1 ≤ extent }
     requires few { extent ≤ 1048576 }
-    ensures { IfOk result (λ o. MatchOption o (list_all (is_element extent) (list_at between.now.elements.now d) ≡ false) (IsShareOf between.now d extent)) }
+    ensures { IfOk result (λ o. MatchOption o (list_all (is_element extent) (list_at between.now.elements.now d) ≡ false)
+        (IsShareOf between.now d extent)) }
 {
     let elements = copy_at(alloc, between.elements, d)?;
     if !are_elements(extent, elements.as_slice()) {
@@ -134,7 +121,8 @@ fn share_within(
 /// aren't elements. Linear in what is held of it, and in the arrays.
 pub fn share_of(alloc: Global, between: &Between, d: u32) -> Result<Option<Share>, Memory>
     requires { IsSound between.now }
-    ensures { IfOk result (λ o. MatchOption o (has_share between.now d ≡ false) (IsShareOf between.now d (layout_extent between.now.checked.now.layouts d))) }
+    ensures { IfOk result (λ o. MatchOption o (has_share between.now d ≡ false)
+        (IsShareOf between.now d (layout_extent between.now.checked.now.layouts d))) }
 {
     match between.checked.layouts.get(d as usize) {
         None => Ok(None),

@@ -1,10 +1,12 @@
--- There is one ascending order of a bag, and `sorted` is it.
-use Rattle.std.specs.Prelude.{◌≡◌, ℕ, ◌+◌, ℤ, pos, negsuc, Bool, true, false, cond, List, [], ◌∷◌, count_by, nat_le, int_le}
+-- There is one ascending order of a bag, and `sorted` and `sorted_by` are it.
+use Rattle.std.specs.Prelude.{◌≡◌, ◌≢◌, ◌⊎◌, ℕ, ◌+◌, ℤ, pos, negsuc, Bool, true, false, cond, List, [], ◌∷◌, count_by, nat_le, int_le}
 use Rattle.std.specs.List.{AllByRecursion}
-use Rattle.std.proofs.Common.{ap, sym, ◌∙◌, arith, refl}
-use Rattle.std.proofs.lemmas.Bool.Decides.{nat_tests}
-use Rattle.chaos_bins.specs.Bags.{SameBag, first_counted, count_by-none}
-use Rattle.chaos_bins.specs.Bins.{inserted, sorted}
+use Rattle.std.specs.Ordering.{int_eq}
+use Rattle.std.proofs.Common.{ap, sym, ◌∙◌, arith, refl, inl, inr}
+use Rattle.std.proofs.lemmas.Bool.Decides.{Decides-int_eq, nat_tests, not_from_Decides}
+use Rattle.chaos_bins.specs.Bags.{SameBag}
+use Rattle.list_laws.specs.Counts.{first_counted, count_by-all_fail}
+use Rattle.chaos_bins.specs.Bins.{inserted_by, pair_le, sorted, sorted_by}
 
 -- each is at most all that follow
 abbrev pub IsAscending : {X : Type 0} → (X → X → Bool) → List X → Type 0
@@ -39,7 +41,7 @@ module _ {X : Type 0} (le : X → X → Bool)
       by : (b : Bool) → le y x ≡ b → le y x ≡ true
       by true e = e
       by false e =
-          let none : count_by test (y ∷ ys) ≡ 0 = count_by-none test (y ∷ ys) (e, none_lower x y ys e all) in
+          let none : count_by test (y ∷ ys) ≡ 0 = count_by-all_fail test (y ∷ ys) (e, none_lower x y ys e all) in
           let one : count_by test (x ∷ xs) ≡ 1 + count_by test xs =
           first_counted test x xs ∙ ap (λ b. cond b 1 0 + count_by test xs) (itself x) in
           absurd (omega (arith, none, one, same test))
@@ -78,7 +80,7 @@ int_itself : (x : ℤ) → int_le x x ≡ true
 int_itself (pos a) = grind (arith, nat_tests)
 int_itself (negsuc a) = grind (arith, nat_tests)
 
-int_onward : (x y z : ℤ) → int_le x y ≡ true → int_le y z ≡ true → int_le x z ≡ true
+pub int_onward : (x y z : ℤ) → int_le x y ≡ true → int_le y z ≡ true → int_le x z ≡ true
 int_onward (pos a) (pos b) (pos c) e f = grind (arith, nat_tests)
 int_onward (pos a) (pos b) (negsuc c) e f = not_true f
 int_onward (pos a) (negsuc b) z e f = not_true e
@@ -99,45 +101,117 @@ int_other (pos a) (negsuc b) e = refl
 int_other (negsuc a) (pos b) e = not_true (sym e)
 int_other (negsuc a) (negsuc b) e = grind (arith, nat_tests)
 
+-- what is above a number that isn't at most z, isn't either
+pub int_above : (x y z : ℤ) → int_le x z ≡ false → int_le x y ≡ true → int_le y z ≡ false
+int_above x y z e f = by (int_le y z) refl
+  where
+    by : (b : Bool) → int_le y z ≡ b → int_le y z ≡ false
+    by true g = not_true (sym e ∙ int_onward x y z f g)
+    by false g = g
+
 -- ---- sorted
 
-all_inserted : (P : ℤ → Type 0) (v : ℤ) (ws : List ℤ) → P v → AllByRecursion P ws → AllByRecursion P (inserted v ws)
-all_inserted P v [] p all = (p, tt)
-all_inserted P v (w ∷ ws) p all = by (int_le v w) (all_inserted P v ws p all.1)
-  where
-    by : (b : Bool) → AllByRecursion P (inserted v ws) → AllByRecursion P (cond b (v ∷ w ∷ ws) (w ∷ inserted v ws))
-    by true rest = (p, all)
-    by false rest = (all.0, rest)
+module _ {X : Type 0} (le : X → X → Bool) where
+  inserted_same : (v : X) (ws : List X) → SameBag (v ∷ ws) (inserted_by le v ws)
+  inserted_same v [] test = refl
+  inserted_same v (w ∷ ws) test = by (le v w) (inserted_same v ws test)
+    where
+      by : (b : Bool) → count_by test (v ∷ ws) ≡ count_by test (inserted_by le v ws)
+          → count_by test (v ∷ w ∷ ws) ≡ count_by test (cond b (v ∷ w ∷ ws) (w ∷ inserted_by le v ws))
+      by true e = refl
+      by false e =
+          omega (
+            arith,
+            e,
+            first_counted test v (w ∷ ws),
+            first_counted test w ws,
+            first_counted test v ws,
+            first_counted test w (inserted_by le v ws),
+          )
 
-all_above : (v w : ℤ) (ws : List ℤ) → int_le v w ≡ true → AllByRecursion (λ z. int_le w z ≡ true) ws
-    → AllByRecursion (λ z. int_le v z ≡ true) ws
-all_above v w [] e all = tt
-all_above v w (z ∷ ws) e all = (int_onward v w z e all.0, all_above v w ws e all.1)
+  pub sorted_by_same : (xs : List X) → SameBag xs (sorted_by le xs)
+  sorted_by_same [] test = refl
+  sorted_by_same (v ∷ xs) test =
+      omega (
+        arith,
+        sorted_by_same xs test,
+        inserted_same v (sorted_by le xs) test,
+        first_counted test v xs,
+        first_counted test v (sorted_by le xs),
+      )
 
-inserted_ascends : (v : ℤ) (ws : List ℤ) → IsAscending int_le ws → IsAscending int_le (inserted v ws)
-inserted_ascends v [] up = (tt, tt)
-inserted_ascends v (w ∷ ws) up = by (int_le v w) refl (inserted_ascends v ws up.1)
-  where
-    by : (b : Bool) → int_le v w ≡ b → IsAscending int_le (inserted v ws) → IsAscending int_le (cond b (v ∷ w ∷ ws) (w ∷ inserted v ws))
-    by true e rest = ((e, all_above v w ws e up.0), up)
-    by false e rest = (all_inserted (λ z. int_le w z ≡ true) v ws (int_other v w e) up.0, rest)
+module _ {X : Type 0} (le : X → X → Bool)
+    (onward : (x y z : X) → le x y ≡ true → le y z ≡ true → le x z ≡ true)
+    (other : (x y : X) → le x y ≡ false → le y x ≡ true) where
+  all_inserted : (P : X → Type 0) (v : X) (ws : List X) → P v → AllByRecursion P ws → AllByRecursion P (inserted_by le v ws)
+  all_inserted P v [] p all = (p, tt)
+  all_inserted P v (w ∷ ws) p all = by (le v w) (all_inserted P v ws p all.1)
+    where
+      by : (b : Bool) → AllByRecursion P (inserted_by le v ws) → AllByRecursion P (cond b (v ∷ w ∷ ws) (w ∷ inserted_by le v ws))
+      by true rest = (p, all)
+      by false rest = (all.0, rest)
 
-inserted_same : (v : ℤ) (ws : List ℤ) → SameBag (v ∷ ws) (inserted v ws)
-inserted_same v [] test = refl
-inserted_same v (w ∷ ws) test = by (int_le v w) (inserted_same v ws test)
+  all_above : (v w : X) (ws : List X) → le v w ≡ true → AllByRecursion (λ z. le w z ≡ true) ws → AllByRecursion (λ z. le v z ≡ true) ws
+  all_above v w [] e all = tt
+  all_above v w (z ∷ ws) e all = (onward v w z e all.0, all_above v w ws e all.1)
+
+  inserted_ascends : (v : X) (ws : List X) → IsAscending le ws → IsAscending le (inserted_by le v ws)
+  inserted_ascends v [] up = (tt, tt)
+  inserted_ascends v (w ∷ ws) up = by (le v w) refl (inserted_ascends v ws up.1)
+    where
+      by : (b : Bool) → le v w ≡ b → IsAscending le (inserted_by le v ws) → IsAscending le (cond b (v ∷ w ∷ ws) (w ∷ inserted_by le v ws))
+      by true e rest = ((e, all_above v w ws e up.0), up)
+      by false e rest = (all_inserted (λ z. le w z ≡ true) v ws (other v w e) up.0, rest)
+
+  pub sorted_by_ascends : (xs : List X) → IsAscending le (sorted_by le xs)
+  sorted_by_ascends [] = tt
+  sorted_by_ascends (v ∷ xs) = inserted_ascends v (sorted_by le xs) (sorted_by_ascends xs)
+
+-- ---- pairs, by the first and then by the second
+
+pair_cases : (x y : ℤ × ℤ) → ((x.0 ≡ y.0) × (pair_le x y ≡ int_le x.1 y.1)) ⊎ ((x.0 ≢ y.0) × (pair_le x y ≡ int_le x.0 y.0))
+pair_cases x y = by (int_eq x.0 y.0) refl
   where
-    by : (b : Bool) → count_by test (v ∷ ws) ≡ count_by test (inserted v ws)
-        → count_by test (v ∷ w ∷ ws) ≡ count_by test (cond b (v ∷ w ∷ ws) (w ∷ inserted v ws))
-    by true e = refl
+    by : (b : Bool) → int_eq x.0 y.0 ≡ b
+        → ((x.0 ≡ y.0) × (pair_le x y ≡ int_le x.1 y.1)) ⊎ ((x.0 ≢ y.0) × (pair_le x y ≡ int_le x.0 y.0))
+    by true e = inl ((Decides-int_eq x.0 y.0).0 e, ap (λ c. cond c (int_le x.1 y.1) (int_le x.0 y.0)) e)
     by false e =
-        omega (
-          arith,
-          e,
-          first_counted test v (w ∷ ws),
-          first_counted test w ws,
-          first_counted test v ws,
-          first_counted test w (inserted v ws),
-        )
+        inr (not_from_Decides (int_eq x.0 y.0) (Decides-int_eq x.0 y.0) e, ap (λ c. cond c (int_le x.1 y.1) (int_le x.0 y.0)) e)
+
+pub int_same : (a b : ℤ) → a ≡ b → int_le a b ≡ true
+int_same a b e = ap (int_le a) (sym e) ∙ int_itself a
+
+-- what the order of pairs says of their parts
+pub pair_first : (x y : ℤ × ℤ) → pair_le x y ≡ true → int_le x.0 y.0 ≡ true
+pair_first x y e = elim (pair_cases x y) [ inl same ↦ int_same x.0 y.0 same.0 | inr apart ↦ sym apart.1 ∙ e ]
+
+pub pair_second : (x y : ℤ × ℤ) → pair_le x y ≡ true → x.0 ≡ y.0 → int_le x.1 y.1 ≡ true
+pair_second x y e f = elim (pair_cases x y) [ inl same ↦ sym same.1 ∙ e | inr apart ↦ absurd (apart.0 f) ]
+
+pub pair_from : (x y : ℤ × ℤ) → int_le x.0 y.0 ≡ true → (x.0 ≡ y.0 → int_le x.1 y.1 ≡ true) → pair_le x y ≡ true
+pair_from x y e f = elim (pair_cases x y) [ inl same ↦ same.1 ∙ f same.0 | inr apart ↦ apart.1 ∙ e ]
+
+pair_itself : (x : ℤ × ℤ) → pair_le x x ≡ true
+pair_itself x = pair_from x x (int_itself x.0) (λ e. int_itself x.1)
+
+pair_onward : (x y z : ℤ × ℤ) → pair_le x y ≡ true → pair_le y z ≡ true → pair_le x z ≡ true
+pair_onward x y z e f =
+    pair_from x z (int_onward x.0 y.0 z.0 (pair_first x y e) (pair_first y z f))
+    (λ same.
+    let near : x.0 ≡ y.0 = int_alike x.0 y.0 (pair_first x y e) (ap (int_le y.0) same ∙ pair_first y z f) in
+    int_onward x.1 y.1 z.1 (pair_second x y e near) (pair_second y z f (sym near ∙ same)))
+
+pair_alike : (x y : ℤ × ℤ) → pair_le x y ≡ true → pair_le y x ≡ true → x ≡ y
+pair_alike x y e f =
+    let first : x.0 ≡ y.0 = int_alike x.0 y.0 (pair_first x y e) (pair_first y x f) in
+    let second : x.1 ≡ y.1 = int_alike x.1 y.1 (pair_second x y e first) (pair_second y x f (sym first)) in
+    ap (λ (a : ℤ). (a, x.1)) first ∙ ap (λ (b : ℤ). (y.0, b)) second
+
+pair_other : (x y : ℤ × ℤ) → pair_le x y ≡ false → pair_le y x ≡ true
+pair_other x y e = elim (pair_cases x y) [
+  | inl same ↦ pair_from y x (int_same y.0 x.0 (sym same.0)) (λ f. int_other x.1 y.1 (sym same.1 ∙ e))
+  | inr apart ↦ pair_from y x (int_other x.0 y.0 (sym apart.1 ∙ e)) (λ f. absurd (apart.0 (sym f)))
+]
 
 -- ---- what the law function says
 
@@ -160,22 +234,13 @@ abbrev pub SortedIsSame : Type 0
 SortedIsSame = (values : List ℤ) → SameBag values (sorted values)
 
 pub sorted_is_same : SortedIsSame
-sorted_is_same [] test = refl
-sorted_is_same (v ∷ values) test =
-    omega (
-      arith,
-      sorted_is_same values test,
-      inserted_same v (sorted values) test,
-      first_counted test v values,
-      first_counted test v (sorted values),
-    )
+sorted_is_same = sorted_by_same int_le
 
 abbrev pub SortedAscends : Type 0
 SortedAscends = (values : List ℤ) → IsAscending int_le (sorted values)
 
 pub sorted_ascends : SortedAscends
-sorted_ascends [] = tt
-sorted_ascends (v ∷ values) = inserted_ascends v (sorted values) (sorted_ascends values)
+sorted_ascends = sorted_by_ascends int_le int_onward int_other
 
 -- so an ascending list of a bag's values is its sorted values
 abbrev pub SortedIsOnly : Type 0
@@ -184,3 +249,18 @@ SortedIsOnly = (values xs : List ℤ) → IsAscending int_le xs → SameBag valu
 pub sorted_is_only : SortedIsOnly
 sorted_is_only values xs up same =
     one_order_of_values xs (sorted values) up (sorted_ascends values) (λ test. sym (same test) ∙ sorted_is_same values test)
+
+-- the same of pairs
+abbrev pub PairsAreSorted : Type 0
+PairsAreSorted = (pairs : List (ℤ × ℤ)) → SameBag pairs (sorted_by pair_le pairs) × IsAscending pair_le (sorted_by pair_le pairs)
+
+pub pairs_are_sorted : PairsAreSorted
+pairs_are_sorted pairs = (sorted_by_same pair_le pairs, sorted_by_ascends pair_le pair_onward pair_other pairs)
+
+abbrev pub SortedPairsAreOnly : Type 0
+SortedPairsAreOnly = (pairs xs : List (ℤ × ℤ)) → IsAscending pair_le xs → SameBag pairs xs → xs ≡ sorted_by pair_le pairs
+
+pub sorted_pairs_are_only : SortedPairsAreOnly
+sorted_pairs_are_only pairs xs up same =
+    one_order pair_le pair_itself pair_onward pair_alike xs (sorted_by pair_le pairs) up (pairs_are_sorted pairs).1
+    (λ test. sym (same test) ∙ (pairs_are_sorted pairs).0 test)

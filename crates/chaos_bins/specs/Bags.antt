@@ -1,54 +1,15 @@
 -- Lists as bags, where order doesn't count, and items dealt out by number.
-use Rattle.std.specs.Prelude.{◌≡◌, ℕ, zero, suc, ◌+◌, ◌≤◌, ◌<◌, ◌==◌, ◌&&◌, ℤ, Bool, true, false, cond, List, [], ◌∷◌, ◌++◌, map, filter, count_by}
+use Rattle.std.specs.Prelude.{◌≡◌, ℕ, zero, suc, ◌+◌, ◌≤◌, ◌<◌, ◌==◌, ℤ, Bool, true, false, cond, List, [], ◌∷◌, ◌++◌, count_by}
 use Rattle.std.specs.List.{AllByRecursion}
 use Rattle.std.proofs.Common.{ap, sym, ◌∙◌, arith, refl, inl, inr}
 use Rattle.std.proofs.lemmas.Bool.{cases_lt}
 use Rattle.std.proofs.lemmas.Bool.Decides.{nat_tests}
-use Rattle.std.proofs.lemmas.List.Sums.{sum_by-cons, sum_by-append}
 use Rattle.chaos_dist.specs.Buckets.{bucket, buckets}
+use Rattle.list_laws.specs.Counts.{first_counted, count_by-append}
 
 -- of both lists as many pass each test
 abbrev pub SameBag : {X : Type 0} → List X → List X → Type 0
 SameBag {X} xs ys = (test : X → Bool) → count_by test xs ≡ count_by test ys
-
--- ---- counts
-
-pub first_counted : {X : Type 0} (p : X → Bool) (x : X) (xs : List X) → count_by p (x ∷ xs) ≡ cond (p x) 1 0 + count_by p xs
-first_counted p x xs = sum_by-cons (λ x. cond (p x) 1 0) x xs
-
-pub count_by-same : {X : Type 0} (p q : X → Bool) (xs : List X) → ((x : X) → p x ≡ q x) → count_by p xs ≡ count_by q xs
-count_by-same p q [] h = refl
-count_by-same p q (x ∷ xs) h =
-    first_counted p x xs
-    ∙ ap (λ b. cond b 1 0 + count_by p xs) (h x)
-    ∙ ap (λ n. cond (q x) 1 0 + n) (count_by-same p q xs h)
-    ∙ sym (first_counted q x xs)
-
-pub count_by-none : {X : Type 0} (p : X → Bool) (xs : List X) → AllByRecursion (λ x. p x ≡ false) xs → count_by p xs ≡ 0
-count_by-none p [] all = refl
-count_by-none p (x ∷ xs) all =
-    first_counted p x xs ∙ ap (λ b. cond b 1 0 + count_by p xs) all.0 ∙ omega (arith, count_by-none p xs all.1)
-
-pub count_by-map : {X Y : Type 0} (f : X → Y) (test : Y → Bool) (xs : List X) → count_by test (map f xs) ≡ count_by (λ x. test (f x)) xs
-count_by-map f test [] = refl
-count_by-map f test (x ∷ xs) =
-    first_counted test (f x) (map f xs)
-    ∙ ap (λ n. cond (test (f x)) 1 0 + n) (count_by-map f test xs)
-    ∙ sym (first_counted (λ y. test (f y)) x xs)
-
-kept_first : {X : Type 0} (b : Bool) (test : X → Bool) (x : X) (xs : List X) (n : ℕ) → count_by test xs ≡ n
-    → count_by test (cond b (x ∷ xs) xs) ≡ cond (b && test x) 1 0 + n
-kept_first true test x xs n e = first_counted test x xs ∙ ap (λ k. cond (test x) 1 0 + k) e
-kept_first false test x xs n e = e ∙ omega arith
-
-pub count_by-filter : {X : Type 0} (p test : X → Bool) (xs : List X) → count_by test (filter p xs) ≡ count_by (λ x. p x && test x) xs
-count_by-filter p test [] = refl
-count_by-filter p test (x ∷ xs) =
-    kept_first (p x) test x (filter p xs) (count_by (λ y. p y && test y) xs) (count_by-filter p test xs)
-    ∙ sym (first_counted (λ y. p y && test y) x xs)
-
-pub count_by-append : {X : Type 0} (test : X → Bool) (xs ys : List X) → count_by test (xs ++ ys) ≡ count_by test xs + count_by test ys
-count_by-append test xs ys = sum_by-append (λ x. cond (test x) 1 0) xs ys
 
 -- ---- items dealt out
 

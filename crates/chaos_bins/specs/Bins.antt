@@ -1,5 +1,6 @@
 -- Particles that move between bins, and what each bin has at the end.
-use Rattle.std.specs.Prelude.{ℕ, zero, suc, ◌-◌, ◌==◌, ◌&&◌, ℤ, pos, ◌+ℤ◌, ◌-ℤ◌, ◌*ℤ◌, Bool, if◌then◌else◌, List, [], ◌∷◌, ◌++◌, map, filter, flat_map, int_le, slice_get, unwrap_or, unsigned_abs, codes, decimal}
+use Rattle.std.specs.Prelude.{ℕ, zero, suc, ◌-◌, ◌==◌, ◌&&◌, ℤ, pos, ◌+ℤ◌, ◌-ℤ◌, ◌*ℤ◌, Bool, if◌then◌else◌, List, [], ◌∷◌, ◌++◌, map}
+use Rattle.std.specs.Prelude.{filter, flat_map, int_le, slice_get, unwrap_or, unsigned_abs, codes, decimal}
 use Rattle.std.specs.Fmt.{signed_decimal}
 use Rattle.std.specs.Int.{int_rem_euclid}
 use Rattle.std.specs.Ordering.{int_eq}
@@ -47,15 +48,23 @@ values_in bins steps particles b =
 
 -- ---- lines
 
--- a value put before the first that isn't lower
-abbrev pub inserted : ℤ → List ℤ → List ℤ
-inserted v [] = v ∷ []
-inserted v (w ∷ values) = if int_le v w then v ∷ w ∷ values else w ∷ inserted v values
+-- an item put before the first that isn't lower
+abbrev pub inserted_by : {X : Type 0} → (X → X → Bool) → X → List X → List X
+inserted_by le v [] = v ∷ []
+inserted_by le v (w ∷ rest) = if le v w then v ∷ w ∷ rest else w ∷ inserted_by le v rest
+
+-- items in ascending order
+abbrev pub sorted_by : {X : Type 0} → (X → X → Bool) → List X → List X
+sorted_by le [] = []
+sorted_by le (v ∷ rest) = inserted_by le v (sorted_by le rest)
 
 -- values in ascending order
 abbrev pub sorted : List ℤ → List ℤ
-sorted [] = []
-sorted (v ∷ values) = inserted v (sorted values)
+sorted values = sorted_by int_le values
+
+-- pairs of bin and value: by bin, then by value
+abbrev pub pair_le : ℤ × ℤ → ℤ × ℤ → Bool
+pair_le x y = if int_eq x.0 y.0 then int_le x.1 y.1 else int_le x.0 y.0
 
 -- `bin b:`, a blank and the value for each, the line's end
 abbrev pub bin_line : ℕ → List ℤ → List ℕ

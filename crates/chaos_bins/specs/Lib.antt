@@ -4,4 +4,9 @@ pub mod Bags
 pub mod Rounds
 pub mod Moving
 pub mod Ascending
+pub mod Lines
+pub mod Plan
+pub mod PlanLaws
+pub mod Appended
+pub mod Coming
 pub mod Worked

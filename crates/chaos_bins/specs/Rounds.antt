@@ -1,10 +1,12 @@
 -- What nodes have that hand items on in rounds, and what goes from one to another.
-use Rattle.std.specs.Prelude.{◌≡◌, ℕ, zero, suc, ◌+◌, ◌<◌, ◌==◌, ◌&&◌, Bool, true, false, List, [], ◌∷◌, ◌++◌, map, filter, flat_map, count_by, slice_get, unwrap_or}
+use Rattle.std.specs.Prelude.{◌≡◌, ℕ, zero, suc, ◌+◌, ◌≤◌, ◌<◌, ◌==◌, ◌&&◌, Bool, true, false, List, [], ◌∷◌, ◌++◌, map, filter, flat_map}
+use Rattle.std.specs.Prelude.{count_by, slice_get, unwrap_or}
 use Rattle.std.specs.List.{range_with_len}
 use Rattle.std.proofs.Common.{ap, sym, ◌∙◌, subst, arith, refl}
 use Rattle.chaos_dist.specs.Buckets.{bucket}
 use Rattle.chaos_dist.specs.Counting.{below}
-use Rattle.chaos_bins.specs.Bags.{SameBag, AreDealt, count_by-same, count_by-map, count_by-filter, count_by-append, bag_dealt}
+use Rattle.chaos_bins.specs.Bags.{SameBag, AreDealt, bag_dealt}
+use Rattle.list_laws.specs.Counts.{count_by-same, count_by-map, count_by-filter, count_by-append}
 
 -- the list at a place, empty from the end on
 abbrev pub list_at : {X : Type 0} → List (List X) → ℕ → List X
@@ -27,13 +29,20 @@ at_from f a (suc n) (suc p) low =
     let e : a + 1 + p ≡ a + suc p = omega arith in
     at_from f (a + 1) n p (omega (arith, low)) ∙ ap f e
 
-bag_flat_map : {X : Type 0} (f g : ℕ → List X) (qs : List ℕ) → ((q : ℕ) → SameBag (f q) (g q)) → SameBag (flat_map f qs) (flat_map g qs)
+pub bag_flat_map : {X : Type 0} (f g : ℕ → List X) (qs : List ℕ) → ((q : ℕ) → SameBag (f q) (g q)) → SameBag (flat_map f qs) (flat_map g qs)
 bag_flat_map f g [] h test = refl
 bag_flat_map f g (q ∷ qs) h test =
     count_by-append test (f q) (flat_map f qs)
     ∙ ap (λ k. k + count_by test (flat_map f qs)) (h q test)
     ∙ ap (λ k. count_by test (g q) + k) (bag_flat_map f g qs h test)
     ∙ sym (count_by-append test (g q) (flat_map g qs))
+
+pub flat_map-same : {X : Type 0} (f g : ℕ → List X) (a k : ℕ) → ((q : ℕ) → a ≤ q → q < a + k → f q ≡ g q)
+    → flat_map f (range_with_len a k) ≡ flat_map g (range_with_len a k)
+flat_map-same f g a zero h = refl
+flat_map-same f g a (suc k) h =
+    ap (λ l. l ++ flat_map f (range_with_len (a + 1) k)) (h a (omega arith) (omega arith))
+    ∙ ap (λ l. g a ++ l) (flat_map-same f g (a + 1) k (λ q l m. h q (omega (arith, l)) (omega (arith, m))))
 
 -- what is done to each list can be done to all together
 count_by-each : {X Y : Type 0} (f : ℕ → List X) (h : List X → List Y) (test : Y → Bool) (same : X → Bool)
@@ -95,11 +104,11 @@ module _ {X : Type 0} (n : ℕ) (items : List ℕ) (first : ℕ → X) (begin : 
       map-agree (λ p. flat_map (for_node t p) (lists_before t)) (standing (suc t)) (below n)
       (λ p. ap (flat_map (for_node t p)) (all_standing t) ∙ flat_map-map (for_node t p) (standing t) (below n))
 
-  abbrev held : ℕ → ℕ → List X
+  abbrev pub held : ℕ → ℕ → List X
   held t p = map (item_before t) (filter (λ i. node_before t i == p) items)
 
   -- all that the nodes have, together
-  all_held : (t : ℕ) → AreDealt (node_before t) n items → SameBag (map (item_before t) items) (flat_map (held t) (below n))
+  pub all_held : (t : ℕ) → AreDealt (node_before t) n items → SameBag (map (item_before t) items) (flat_map (held t) (below n))
   all_held t dealt test =
       count_by-map (item_before t) test items
       ∙ bag_dealt (node_before t) n items dealt (λ i. test (item_before t i))
@@ -131,10 +140,31 @@ module _ {X : Type 0} (n : ℕ) (items : List ℕ) (first : ℕ → X) (begin : 
       ∙ are_held dealt t p kept
       ∙ sym (count_by-moved (move t) (λ x. owner x == q) test (standing t p))
 
+  stands : (t p : ℕ) → p < n → list_at (lists_before t) p ≡ standing t p
+  stands t p low =
+      let none : 0 + p ≡ p = omega arith in
+      ap (λ l. list_at l p) (all_standing t) ∙ at_from (standing t) 0 n p low ∙ ap (standing t) none
+
+  -- before round 0 a node has the items that it begins with
+  pub first_stands : (p : ℕ) → p < n → list_at (lists_before 0) p ≡ map first (filter (λ i. begin i == p) items)
+  first_stands p low = stands 0 p low
+
+  -- what a node has before a round is, as a bag, the items that it holds
+  pub held_stand : ((t : ℕ) → AreDealt (node_before t) n items) → (t p : ℕ) → p < n → SameBag (held t p) (list_at (lists_before t) p)
+  held_stand dealt t p low = subst (λ l. SameBag (held t p) l) (sym (stands t p low)) (are_held dealt t p)
+
+  -- and what it has before the next is what came to it in the round, from each node in turn
+  pub rows_come_in : (t p : ℕ) → p < n → list_at (lists_before (suc t)) p ≡ flat_map (λ q. rows_in t q p) (below n)
+  rows_come_in t p low =
+      let none : 0 + p ≡ p = omega arith in
+      at_from (λ r. flat_map (for_node t r) (lists_before t)) 0 n p low
+      ∙ ap (λ r. flat_map (for_node t r) (lists_before t)) none
+      ∙ ap (flat_map (for_node t p)) (all_standing t)
+      ∙ flat_map-map (for_node t p) (standing t) (below n)
+      ∙ flat_map-same (λ q. for_node t p (standing t q)) (λ q. rows_in t q p) 0 n
+      (λ q l m. ap (for_node t p) (sym (stands t q (omega (arith, m)))))
+
   -- the rows of each round and pair of nodes are, as a bag, the items that the first has and the second owns next
   pub rows_move : ((t : ℕ) → AreDealt (node_before t) n items) → (t p q : ℕ) → p < n → SameBag (moving_in t p q) (rows_in t p q)
   rows_move dealt t p q low =
-      let none : 0 + p ≡ p = omega arith in
-      let here : standing t p ≡ list_at (lists_before t) p =
-      sym (ap (λ l. list_at l p) (all_standing t) ∙ at_from (standing t) 0 n p low ∙ ap (standing t) none) in
-      subst (λ l. SameBag (moving_in t p q) (for_node t q l)) here (are_moving dealt t p q)
+      subst (λ l. SameBag (moving_in t p q) (for_node t q l)) (sym (stands t p low)) (are_moving dealt t p q)

@@ -2,6 +2,7 @@
 use Rattle.std.specs.Prelude.{ℕ, ◌-◌, ◌^◌, ℤ, pos, negsuc, List, [], ◌∷◌, length, map}
 use Rattle.chaos_dist.specs.Counting.{up_to}
 use Rattle.chaos_bins.specs.Bins.{Particles, sorted, values_in}
+use Rattle.chaos_bins.specs.Plan.{AppendPlan}
 
 abbrev pub particles_of : List ℕ → List ℤ → Particles
 particles_of bins values = record { count = length bins; bins = map pos bins; values = values }
@@ -34,3 +35,7 @@ abbrev pub mixed : Particles
 mixed =
     particles_of (1 ∷ 2 ∷ 3 ∷ 4 ∷ 5 ∷ 6 ∷ 7 ∷ 1 ∷ 1 ∷ [])
     (pos 1 ∷ negsuc 7 ∷ pos 3 ∷ pos 3 ∷ pos 3 ∷ negsuc 2 ∷ pos 0 ∷ pos 1 ∷ pos 13 ∷ [])
+
+-- five particles on two nodes, one step
+abbrev pub five_plan : AppendPlan
+five_plan = record { bins = 3; steps = 1; nodes = 2; particles = five }

@@ -2,7 +2,9 @@
 #![tactic(auto)]
 
 pub mod laws;
+mod stage;
 mod stepping;
 pub mod worked;
 
+pub use stage::Stage;
 pub use stepping::step;

@@ -1,8 +1,10 @@
 //! Worked moves of particles. Each function's contract is what the definitions compute for one of them.
 ghost use Rattle.std.specs.Prelude.{◌≡◌, ◌++◌, pos, negsuc, [], ◌∷◌, codes};
+ghost use Rattle.bsp_desk.specs.Uniform.{letters_of};
 ghost use Rattle.chaos_bins.specs.Bins.{lines_of, moving};
 ghost use Rattle.chaos_bins.specs.Moving.{rows, standing};
-ghost use Rattle.chaos_bins.specs.Worked.{bins_after, equals, far, five, lowest, minus_one, mixed, most, particles_of};
+ghost use Rattle.chaos_bins.specs.Plan.{append_letter, phases_of, print_letter, round_at, sizes_letter};
+ghost use Rattle.chaos_bins.specs.Worked.{bins_after, equals, far, five, five_plan, lowest, minus_one, mixed, most, particles_of};
 
 /// Five particles in three bins, after one step and before it.
 pub fn five_particles()
@@ -20,6 +22,17 @@ pub fn five_on_two_nodes()
     ensures moving { moving 3 2 five 1 0 1 ≡ (pos 3, pos 5) ∷ (pos 3, minus_one) ∷ [] }
     ensures after { standing 3 2 five 2
         ≡ ((pos 1, pos 5) ∷ (pos 2, pos 5) ∷ []) ∷ ((pos 3, pos 5) ∷ (pos 3, minus_one) ∷ (pos 3, pos 0) ∷ []) ∷ [] }
+{}
+
+/// What the two tell each other: in round 0 nothing moves, in round 1 two pairs go one way and one the other, and
+/// then node 1 tells node 0 what it has, by bin and value.
+pub fn five_letters()
+    ensures out { letters_of (phases_of five_plan) (round_at five_plan) 0 1
+        ≡ sizes_letter 0 [] ∷ append_letter 0 []
+        ∷ sizes_letter 1 ((pos 3, pos 5) ∷ (pos 3, minus_one) ∷ []) ∷ append_letter 1 ((pos 3, pos 5) ∷ (pos 3, minus_one) ∷ []) ∷ [] }
+    ensures back { letters_of (phases_of five_plan) (round_at five_plan) 1 0
+        ≡ sizes_letter 0 [] ∷ append_letter 0 [] ∷ sizes_letter 1 ((pos 2, pos 5) ∷ []) ∷ append_letter 1 ((pos 2, pos 5) ∷ [])
+        ∷ print_letter 1 ((pos 3, minus_one) ∷ (pos 3, pos 0) ∷ (pos 3, pos 5) ∷ []) ∷ [] }
 {}
 
 /// A bin that nothing comes to has a line without values.

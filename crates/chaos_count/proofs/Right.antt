@@ -1,5 +1,6 @@
 -- The phases that are told step by step are those of the run.
-use Rattle.std.specs.Prelude.{◌≡◌, refl, ℕ, zero, suc, ◌+◌, ◌<◌, ◌^◌, pos, Bool, true, false, not, ◌&&◌, ◌||◌, ◌==◌, nat_lt, int_lt, if◌then◌else◌, List, [], ◌∷◌, length, map, fold, slice_get, slice_set, unwrap_or, Option, Some, None}
+use Rattle.std.specs.Prelude.{◌≡◌, refl, ℕ, zero, suc, ◌+◌, ◌<◌, ◌^◌, pos, Bool, true, false, not, ◌&&◌, ◌||◌, ◌==◌, nat_lt, int_lt}
+use Rattle.std.specs.Prelude.{if◌then◌else◌, List, [], ◌∷◌, length, map, fold, slice_get, slice_set, unwrap_or, Option, Some, None}
 use Rattle.std.specs.List.{AllByRecursion, list_any, range_with_len}
 use Rattle.std.specs.Option.{option_map}
 use Rattle.std.proofs.Common.{ap, sym, ◌∙◌, subst, arith}
@@ -12,7 +13,7 @@ use Rattle.fd_program.specs.Checks.{IsChecked}
 use Rattle.fd_program.specs.Layouts.{facts_at}
 use Rattle.fd_program.specs.Past.{has_target, is_repeat, inspects_at, latest_of, record_at, version_at}
 use Rattle.fd_program.specs.Trace.{trace_of, site_at, is_empty_turn}
-use Rattle.fd_program.specs.Uses.{is_target}
+use Rattle.fd_words.specs.Roles.{is_target}
 use Rattle.fd_program.specs.declared.checked.Checked.{Checked}
 use Rattle.fd_program.specs.declared.loop_facts.HomeRule.{HomeRule}
 use Rattle.fd_program.specs.declared.loop_record.LoopRecord.{LoopRecord}
@@ -21,18 +22,20 @@ use Rattle.fd_program.specs.declared.trace.LoopTurn.{LoopTurn}
 use Rattle.fd_program.specs.declared.trace.Step.{Step}
 use Rattle.fd_program.specs.declared.trace.Step.TheVariants.{Distribute, Print, Forall}
 use Rattle.chaos_records.specs.Keeping.{Keeps, first_setting, setting_in, setting_at, moved, written, record_in, differs}
-use Rattle.chaos_records.specs.KeepingLaws.{NewKeeps, PrintKeeps, WritesKeep, MoveKeeps, RecordsAreExact, InspectionsAreKnown, VersionsAreFew}
+use Rattle.chaos_records.specs.KeepingLaws.{NewKeeps, PrintKeeps, WritesKeep, MoveKeeps, RecordsAreExact, InspectionsAreKnown}
+use Rattle.chaos_records.specs.KeepingLaws.{VersionsAreFew}
 use Rattle.chaos_records.specs.Numbering.{same_map, get_below, set_below, replicate_map}
 use Rattle.chaos_records.specs.declared.records.Records.{Records}
 use Rattle.chaos_records.specs.declared.setting.Setting.{Setting}
-use Rattle.chaos_run.specs.LeftLaws.{length-before}
-use Rattle.chaos_run.specs.Phases.{loop_stages, moving_stages, stages_of, phases_from}
-use Rattle.chaos_run.specs.RowLaws.{length-outputs}
-use Rattle.chaos_count.specs.Counting.{latest_at, loop_count, inspection_count, moving_count, stage_count, nothing_known, moved_in, known_after, known_after_loop, count_from}
+use Rattle.plan_run.specs.LeftLaws.{length-before}
+use Rattle.plan_run.specs.Phases.{loop_stages, moving_stages, stages_of, phases_from}
+use Rattle.plan_run.specs.RowLaws.{length-outputs}
+use Rattle.chaos_count.specs.Counting.{latest_at, loop_count, inspection_count, moving_count, stage_count, nothing_known, moved_in}
+use Rattle.chaos_count.specs.Counting.{known_after, known_after_loop, count_from}
 use Rattle.chaos_count.specs.Noting.{targets_are_noted}
 use Rattle.chaos_count.specs.declared.known.Known.{Known}
 use Rattle.chaos_count.proofs.Stages.{inspection_is}
-use Rattle.chaos_count.proofs.Steps.{IsStepIn, steps_are_in}
+use Rattle.fd_program.specs.StepLaws.{IsStepIn, steps_are_in}
 
 -- the record of the latest execution of a FORALL with a range that isn't empty
 abbrev latest_record : Checked → List Step → ℕ → Option LoopRecord
@@ -74,22 +77,28 @@ module _ (new : NewKeeps) (print : PrintKeeps) (writes : WritesKeep) (moves : Mo
       → moved_in r d form ≡ moved r d form
   moved_same past r d form k within short =
       let there : nat_lt d (length r.settings) ≡ true =
-      ap (nat_lt d) (ap length k.settings ∙ length-map (below (length c.layouts)) (setting_at c past) ∙ length_below 0 (length c.layouts)) ∙ is_below d (length c.layouts) within in
+      ap (nat_lt d) (ap length k.settings ∙ length-map (below (length c.layouts)) (setting_at c past) ∙ length_below 0 (length c.layouts))
+      ∙ is_below d (length c.layouts) within in
       let setting : setting_in r d ≡ setting_at c past d =
-      ap (λ l. unwrap_or (slice_get l d) first_setting) k.settings ∙ ap (λ o. unwrap_or o first_setting) (get_below (setting_at c past) (length c.layouts) d within) in
+      ap (λ l. unwrap_or (slice_get l d) first_setting) k.settings
+      ∙ ap (λ o. unwrap_or o first_setting) (get_below (setting_at c past) (length c.layouts) d within) in
       let small : int_lt (setting_in r d).version (pos 4294967296) ≡ true =
-      ap (λ (s : Setting). int_lt s.version (pos 4294967296)) setting ∙ is_below (version_at c past d) 4294967296 (omega (arith, few c past d, short)) in
+      ap (λ (s : Setting). int_lt s.version (pos 4294967296)) setting ∙ is_below (version_at c past d) 4294967296
+      (omega (arith, few c past d, short)) in
       ap (λ b. if b && int_lt (setting_in r d).version (pos 4294967296) then moved r d form else r) there
       ∙ ap (λ b. if b then moved r d form else r) small
 
   -- a FORALL
-  latest_is : (past : List Step) (k : Known) (site : ℕ) → Knows c past k → site < length c.sites → latest_at k.latest site ≡ latest_record c past site
+  latest_is : (past : List Step) (k : Known) (site : ℕ) → Knows c past k → site < length c.sites
+      → latest_at k.latest site ≡ latest_record c past site
   latest_is past k site known within =
       ap (λ l. unwrap_or (slice_get l site) None) known.latest
       ∙ ap (λ o. unwrap_or o None) (get_below (latest_record c past) (length c.sites) site within)
 
-  loop_is : (past : List Step) (k : Known) (site : ℕ) (turn : LoopTurn) → Knows c past k → site < length c.sites → is_empty_turn turn ≡ false
-      → loop_count k c rule site (record_in k.records c site turn) ≡ length (loop_stages (facts_at c nodes rule past site turn) (inspects_at c past site turn))
+  loop_is : (past : List Step) (k : Known) (site : ℕ) (turn : LoopTurn) → Knows c past k → site < length c.sites
+      → is_empty_turn turn ≡ false
+      → loop_count k c rule site (record_in k.records c site turn) ≡ length (loop_stages (facts_at c nodes rule past site turn)
+      (inspects_at c past site turn))
   loop_is past k site turn known within some =
       let inspected = inspection_count k.records c.arrays rule (site_at c.sites site) in
       let inspects : inspects_at c past site turn ≡ differs (record_at c past site turn) (latest_record c past site) =
@@ -99,7 +108,8 @@ module _ (new : NewKeeps) (print : PrintKeeps) (writes : WritesKeep) (moves : Mo
       ∙ ap (λ b. if b then inspected + 2 else 2) (sym inspects)
       ∙ by (inspects_at c past site turn)
     where
-      by : (b : Bool) → (if b then inspection_count k.records c.arrays rule (site_at c.sites site) + 2 else 2) ≡ length (loop_stages (facts_at c nodes rule past site turn) b)
+      by : (b : Bool) → (if b then inspection_count k.records c.arrays rule (site_at c.sites site) + 2 else 2)
+          ≡ length (loop_stages (facts_at c nodes rule past site turn) b)
       by true = sym (inspection_is c nodes rule past site turn k.records known.records)
       by false = refl
 
@@ -109,7 +119,8 @@ module _ (new : NewKeeps) (print : PrintKeeps) (writes : WritesKeep) (moves : Mo
     records = targets_are_noted writes c past site turn k.records known.records some;
     latest = ap (λ l. slice_set l site (Some (record_in k.records c site turn))) known.latest
         ∙ set_below (latest_record c past) (Some (record_in k.records c site turn)) (length c.sites) site
-        ∙ same_map (λ d. if site == d then Some (record_in k.records c site turn) else latest_record c past d) (latest_record c (Forall site turn ∷ past)) 0 (length c.sites)
+        ∙ same_map (λ d. if site == d then Some (record_in k.records c site turn) else latest_record c past d)
+        (latest_record c (Forall site turn ∷ past)) 0 (length c.sites)
         (λ d low high. by d (site == d) refl);
   }
     where
@@ -120,13 +131,17 @@ module _ (new : NewKeeps) (print : PrintKeeps) (writes : WritesKeep) (moves : Mo
           let both : ((site == d) && not (is_empty_turn turn)) ≡ true = ap (λ t. t && not (is_empty_turn turn)) is ∙ ap not some in
           ap (λ now. Some now) (exact c past site turn k.records known.records)
           ∙ ap (λ n. Some (record_at c past n turn)) same
-          ∙ ap (λ t. option_map (λ (latest, before). record_at c before d latest) (if t then Some (turn, past) else latest_of past d)) (sym both)
+          ∙ ap (λ t. option_map (λ (latest, before). record_at c before d latest) (if t then Some (turn, past) else latest_of past d))
+          (sym both)
       by d false is =
-          ap (λ t. option_map (λ (latest, before). record_at c before d latest) (if t && not (is_empty_turn turn) then Some (turn, past) else latest_of past d)) (sym is)
+          ap (λ t. option_map (λ (latest, before). record_at c before d latest) (if t && not (is_empty_turn turn) then Some (turn, past)
+          else latest_of past d)) (sym is)
 
-  known_empty : (past : List Step) (k : Known) (site : ℕ) (turn : LoopTurn) → Knows c past k → is_empty_turn turn ≡ true → Knows c (Forall site turn ∷ past) k
+  known_empty : (past : List Step) (k : Known) (site : ℕ) (turn : LoopTurn) → Knows c past k → is_empty_turn turn ≡ true
+      → Knows c (Forall site turn ∷ past) k
   known_empty past k site turn known none = record {
-    records = writes c past site turn [] k.records known.records (λ array within. sym (ap (λ b. not b && has_target (site_at c.sites site) array) none));
+    records = writes c past site turn [] k.records known.records
+        (λ array within. sym (ap (λ b. not b && has_target (site_at c.sites site) array) none));
     latest = known.latest ∙ same_map (latest_record c past) (latest_record c (Forall site turn ∷ past)) 0 (length c.sites)
         (λ d low high.
         ap (λ t. option_map (λ (latest, before). record_at c before d latest) (if t then Some (turn, past) else latest_of past d))
@@ -161,18 +176,22 @@ module _ (new : NewKeeps) (print : PrintKeeps) (writes : WritesKeep) (moves : Mo
   knows_next past k (Forall site turn) known is short = by (is_empty_turn turn) refl
     where
       by : (e : Bool) → is_empty_turn turn ≡ e
-          → Knows c (Forall site turn ∷ past) (if not e && nat_lt site (length c.sites) then known_after_loop (length past) k c site turn else k)
+          → Knows c (Forall site turn ∷ past) (if not e && nat_lt site (length c.sites) then known_after_loop (length past) k c site turn
+          else k)
       by true none = known_empty past k site turn known none
       by false some =
-          subst (λ b. Knows c (Forall site turn ∷ past) (if b then known_after_loop (length past) k c site turn else k)) (sym (is_below site (length c.sites) is))
+          subst (λ b. Knows c (Forall site turn ∷ past) (if b then known_after_loop (length past) k c site turn else k))
+          (sym (is_below site (length c.sites) is))
           (known_loop past k site turn known some)
 
-  counts_from : (past : List Step) (k : Known) (steps : List Step) → Knows c past k → AllByRecursion (IsStepIn c) steps → length past + length steps < 2 ^ 31
+  counts_from : (past : List Step) (k : Known) (steps : List Step) → Knows c past k → AllByRecursion (IsStepIn c) steps
+      → length past + length steps < 2 ^ 31
       → count_from (length past) k c rule steps + length c.outputs ≡ length (phases_from c nodes rule past steps)
   counts_from past k [] known are short = omega (arith, length-outputs (length past) past 0 c.outputs)
   counts_from past k (step ∷ steps) known are short =
       let next = known_after (length past) k c step in
-      let rest = counts_from (step ∷ past) next steps (knows_next past k step known are.0 (omega (arith, short))) are.1 (omega (arith, short)) in
+      let rest = counts_from (step ∷ past) next steps (knows_next past k step known are.0 (omega (arith, short))) are.1
+      (omega (arith, short)) in
       let at : count_from (length past + 1) next c rule steps ≡ count_from (suc (length past)) next c rule steps =
       (let e : length past + 1 ≡ suc (length past) = omega arith in ap (λ n. count_from n next c rule steps) e) in
       omega (
@@ -186,4 +205,5 @@ module _ (new : NewKeeps) (print : PrintKeeps) (writes : WritesKeep) (moves : Mo
   pub counts_right : (steps : List Step) → IsChecked c → steps ≡ trace_of c → length steps + length c.outputs < 2 ^ 31
       → count_from 0 (nothing_known c) c rule steps + length c.outputs ≡ length (phases_from c nodes rule [] steps)
   counts_right steps checked same short =
-      counts_from [] (nothing_known c) steps knows_nothing (subst (AllByRecursion (IsStepIn c)) (sym same) (steps_are_in c checked)) (omega (arith, short))
+      counts_from [] (nothing_known c) steps knows_nothing (subst (AllByRecursion (IsStepIn c)) (sym same) (steps_are_in c checked))
+      (omega (arith, short))

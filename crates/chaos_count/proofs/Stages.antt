@@ -1,5 +1,6 @@
 -- The phases of an inspection are as many as the forms that are kept tell.
-use Rattle.std.specs.Prelude.{◌≡◌, refl, ℕ, zero, suc, ◌+◌, Bool, true, false, ◌&&◌, ◌||◌, if◌then◌else◌, List, [], ◌∷◌, ◌++◌, length, map, slice_get, unwrap_or}
+use Rattle.std.specs.Prelude.{◌≡◌, refl, ℕ, zero, suc, ◌+◌, Bool, true, false, ◌&&◌, ◌||◌, if◌then◌else◌, List, [], ◌∷◌, ◌++◌, length, map}
+use Rattle.std.specs.Prelude.{slice_get, unwrap_or}
 use Rattle.std.specs.List.{list_any, enumerate_from, range_with_len}
 use Rattle.std.proofs.Common.{ap, sym, ◌∙◌, arith, length-append}
 use Rattle.std.proofs.lemmas.List.{length-map}
@@ -8,7 +9,7 @@ use Rattle.fd_program.specs.Homes.{first_target}
 use Rattle.fd_program.specs.Layouts.{facts_at, layout_at, layouts_at}
 use Rattle.fd_program.specs.Places.{decomposition_of}
 use Rattle.fd_program.specs.Trace.{site_at}
-use Rattle.fd_program.specs.Uses.{is_index}
+use Rattle.fd_words.specs.Roles.{is_index}
 use Rattle.fd_program.specs.declared.array.LayoutName.{LayoutName}
 use Rattle.fd_program.specs.declared.checked.Checked.{Checked}
 use Rattle.fd_program.specs.declared.loop_facts.HomeRule.{HomeRule}
@@ -16,15 +17,17 @@ use Rattle.fd_program.specs.declared.loop_facts.HomeRule.TheVariants.{Owner, Mos
 use Rattle.fd_program.specs.declared.reference.Reference.{Reference}
 use Rattle.fd_program.specs.declared.trace.LoopTurn.{LoopTurn}
 use Rattle.fd_program.specs.declared.trace.Step.{Step}
-use Rattle.chaos_phases.specs.LoopLetters.{asks_places, asking_phases, fetching_phases, phases_to_vote, phases_from_vote, executor_phases, is_for, is_map, layout_for, no_layout}
-use Rattle.chaos_phases.specs.declared.loop_phase.Asking.{Asking}
-use Rattle.chaos_phases.specs.declared.loop_phase.Asking.TheVariants.{Indexes, Homes, References}
-use Rattle.chaos_phases.specs.declared.loop_phase.LoopPhase.{LoopPhase}
-use Rattle.chaos_phases.specs.declared.loop_phase.LoopPhase.TheVariants as phase
+use Rattle.plan_loop.specs.LoopLetters.{asks_places, asking_phases, fetching_phases, phases_to_vote, phases_from_vote, executor_phases}
+use Rattle.plan_loop.specs.LoopLetters.{is_for}
+use Rattle.fd_program.specs.Met.{is_map, layout_for, no_layout}
+use Rattle.plan_loop.specs.declared.loop_phase.Asking.{Asking}
+use Rattle.plan_loop.specs.declared.loop_phase.Asking.TheVariants.{Indexes, Homes, References}
+use Rattle.plan_loop.specs.declared.loop_phase.LoopPhase.{LoopPhase}
+use Rattle.plan_loop.specs.declared.loop_phase.LoopPhase.TheVariants as phase
 use Rattle.chaos_records.specs.Keeping.{Keeps, first_setting, setting_in, setting_at}
 use Rattle.chaos_records.specs.declared.records.Records.{Records}
-use Rattle.chaos_run.specs.Phases.{loop_stages}
-use Rattle.chaos_run.specs.declared.stage.Stage.TheVariants as stage
+use Rattle.plan_run.specs.Phases.{loop_stages}
+use Rattle.plan_run.specs.declared.stage.Stage.TheVariants as stage
 use Rattle.chaos_count.specs.Counting.{is_for_in, asks_from, asks_in, two_if, inspection_count}
 
 -- ---- the form of a decomposition, BLOCK where there is none
@@ -42,62 +45,69 @@ form_is c past r k d = ap (λ l. (unwrap_or (slice_get l d) first_setting).form)
 
 -- ---- asking for places
 
-module _ (c : Checked) (nodes : ℕ) (rule : HomeRule) (past : List Step) (site : ℕ) (turn : LoopTurn) (r : Records) (k : Keeps c past r) where
-  is_for_same : (asking : Asking) (place : ℕ) (role : Role)
-      → is_for (facts_at c nodes rule past site turn) asking (place + 1) role ≡ is_for_in rule (first_target (site_at c.sites site).body) asking place role
-  is_for_same Indexes place role = refl
-  is_for_same References place role = refl
-  is_for_same Homes place role = by rule
-    where
-      by : (rule : HomeRule) → is_for (facts_at c nodes rule past site turn) Homes (place + 1) role ≡ is_for_in rule (first_target (site_at c.sites site).body) Homes place role
-      by Owner = refl
-      by Most = refl
+module _ (c : Checked) (nodes : ℕ) (rule : HomeRule) (past : List Step) (site : ℕ) (turn : LoopTurn) (r : Records) (k : Keeps c past r)
+  where
+    is_for_same : (asking : Asking) (place : ℕ) (role : Role)
+        → is_for (facts_at c nodes rule past site turn) asking (place + 1) role ≡ is_for_in rule (first_target (site_at c.sites site).body)
+        asking place role
+    is_for_same Indexes place role = refl
+    is_for_same References place role = refl
+    is_for_same Homes place role = by rule
+      where
+        by : (rule : HomeRule) → is_for (facts_at c nodes rule past site turn) Homes (place + 1) role ≡ is_for_in rule
+            (first_target (site_at c.sites site).body) Homes place role
+        by Owner = refl
+        by Most = refl
 
-  asks_same_from : (asking : Asking) (place : ℕ) (xs : List Reference)
-      → list_any (λ (number, x). is_for (facts_at c nodes rule past site turn) asking number x.role && is_map (layout_for (facts_at c nodes rule past site turn) x.array).form) (enumerate_from (place + 1) xs)
-      ≡ asks_from r c.arrays rule (first_target (site_at c.sites site).body) asking place xs
-  asks_same_from asking place [] = refl
-  asks_same_from asking place (x ∷ xs) =
-      let f = facts_at c nodes rule past site turn in
-      let rest = asks_same_from asking (place + 1) xs in
-      let later = asks_from r c.arrays rule (first_target (site_at c.sites site).body) asking (place + 1) xs in
-      ap (λ b. (is_for f asking (place + 1) x.role && is_map (layout_for f x.array).form) || b) rest
-      ∙ ap (λ b. (b && is_map (layout_for f x.array).form) || later) (is_for_same asking place x.role)
-      ∙ ap (λ form. (is_for_in rule (first_target (site_at c.sites site).body) asking place x.role && is_map form) || later) (sym (form_is c past r k (decomposition_of c.arrays x.array)))
+    asks_same_from : (asking : Asking) (place : ℕ) (xs : List Reference)
+        → list_any (λ (number, x). is_for (facts_at c nodes rule past site turn) asking number x.role
+        && is_map (layout_for (facts_at c nodes rule past site turn) x.array).form) (enumerate_from (place + 1) xs)
+        ≡ asks_from r c.arrays rule (first_target (site_at c.sites site).body) asking place xs
+    asks_same_from asking place [] = refl
+    asks_same_from asking place (x ∷ xs) =
+        let f = facts_at c nodes rule past site turn in
+        let rest = asks_same_from asking (place + 1) xs in
+        let later = asks_from r c.arrays rule (first_target (site_at c.sites site).body) asking (place + 1) xs in
+        ap (λ b. (is_for f asking (place + 1) x.role && is_map (layout_for f x.array).form) || b) rest
+        ∙ ap (λ b. (b && is_map (layout_for f x.array).form) || later) (is_for_same asking place x.role)
+        ∙ ap (λ form. (is_for_in rule (first_target (site_at c.sites site).body) asking place x.role && is_map form) || later)
+        (sym (form_is c past r k (decomposition_of c.arrays x.array)))
 
-  asks_same : (asking : Asking) → asks_places (facts_at c nodes rule past site turn) asking ≡ asks_in r c.arrays rule (site_at c.sites site) asking
-  asks_same asking = asks_same_from asking 0 (site_at c.sites site).references
+    asks_same : (asking : Asking) → asks_places (facts_at c nodes rule past site turn) asking ≡ asks_in r c.arrays rule
+        (site_at c.sites site) asking
+    asks_same asking = asks_same_from asking 0 (site_at c.sites site).references
 
-  length-two : (b : Bool) (x y : LoopPhase) → length (if b then x ∷ y ∷ [] else []) ≡ two_if b
-  length-two true x y = refl
-  length-two false x y = refl
+    length-two : (b : Bool) (x y : LoopPhase) → length (if b then x ∷ y ∷ [] else []) ≡ two_if b
+    length-two true x y = refl
+    length-two false x y = refl
 
-  pub inspection_is : length (loop_stages (facts_at c nodes rule past site turn) true) ≡ inspection_count r c.arrays rule (site_at c.sites site) + 2
-  inspection_is =
-      let f = facts_at c nodes rule past site turn in
-      let it = site_at c.sites site in
-      let before : List LoopPhase = asking_phases f Indexes ++ fetching_phases f in
-      let homes : List LoopPhase = asking_phases f Homes ++ (phase.Iterations ∷ []) in
-      let both : List LoopPhase = homes ++ asking_phases f References in
-      let all : List LoopPhase = phases_to_vote f ++ phases_from_vote f in
-      let one : (asking : Asking) → length (asking_phases f asking) ≡ two_if (asks_in r c.arrays rule it asking) =
-      (λ asking. length-two (asks_places f asking) (phase.DerefAsk asking) (phase.DerefAnswer asking) ∙ ap two_if (asks_same asking)) in
-      let fetches : length (fetching_phases f) ≡ two_if (list_any (λ (x : Reference). is_index x.role) it.references) =
-      length-two (list_any (λ (x : Reference). is_index x.role) it.references) phase.IndexAsk phase.IndexValues in
-      let to_vote : length (phases_to_vote f) ≡ length before + 1 = length-append before (phase.Vote ∷ []) in
-      let from_vote : length (phases_from_vote f) ≡ length both + 1 = length-append both (phase.ScheduleAsk ∷ []) in
-      omega (
-        arith,
-        length-map (all ++ executor_phases) stage.InLoop,
-        length-append all executor_phases,
-        length-append (phases_to_vote f) (phases_from_vote f),
-        to_vote,
-        from_vote,
-        length-append (asking_phases f Indexes) (fetching_phases f),
-        length-append homes (asking_phases f References),
-        length-append (asking_phases f Homes) (phase.Iterations ∷ []),
-        one Indexes,
-        one Homes,
-        one References,
-        fetches,
-      )
+    pub inspection_is : length (loop_stages (facts_at c nodes rule past site turn) true) ≡ inspection_count r c.arrays rule
+        (site_at c.sites site) + 2
+    inspection_is =
+        let f = facts_at c nodes rule past site turn in
+        let it = site_at c.sites site in
+        let before : List LoopPhase = asking_phases f Indexes ++ fetching_phases f in
+        let homes : List LoopPhase = asking_phases f Homes ++ (phase.Iterations ∷ []) in
+        let both : List LoopPhase = homes ++ asking_phases f References in
+        let all : List LoopPhase = phases_to_vote f ++ phases_from_vote f in
+        let one : (asking : Asking) → length (asking_phases f asking) ≡ two_if (asks_in r c.arrays rule it asking) =
+        (λ asking. length-two (asks_places f asking) (phase.DerefAsk asking) (phase.DerefAnswer asking) ∙ ap two_if (asks_same asking)) in
+        let fetches : length (fetching_phases f) ≡ two_if (list_any (λ (x : Reference). is_index x.role) it.references) =
+        length-two (list_any (λ (x : Reference). is_index x.role) it.references) phase.IndexAsk phase.IndexValues in
+        let to_vote : length (phases_to_vote f) ≡ length before + 1 = length-append before (phase.Vote ∷ []) in
+        let from_vote : length (phases_from_vote f) ≡ length both + 1 = length-append both (phase.ScheduleAsk ∷ []) in
+        omega (
+          arith,
+          length-map (all ++ executor_phases) stage.InLoop,
+          length-append all executor_phases,
+          length-append (phases_to_vote f) (phases_from_vote f),
+          to_vote,
+          from_vote,
+          length-append (asking_phases f Indexes) (fetching_phases f),
+          length-append homes (asking_phases f References),
+          length-append (asking_phases f Homes) (phase.Iterations ∷ []),
+          one Indexes,
+          one Homes,
+          one References,
+          fetches,
+        )

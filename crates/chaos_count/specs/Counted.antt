@@ -5,7 +5,7 @@ use Rattle.fd_program.specs.Trace.{trace_of}
 use Rattle.fd_program.specs.declared.checked.Checked.{Checked}
 use Rattle.fd_program.specs.declared.loop_facts.HomeRule.{HomeRule}
 use Rattle.fd_program.specs.declared.trace.Step.{Step}
-use Rattle.chaos_run.specs.Phases.{phases_from}
+use Rattle.plan_run.specs.Phases.{phases_from}
 use Rattle.chaos_count.specs.Counting.{count_from, nothing_known}
 
 -- n is the number of the phases, if these steps are the program's and there are fewer than 2^31 steps and OUTPUT arrays

@@ -1,5 +1,6 @@
 -- How many phases each step of a run has, told from what is kept of the steps before it.
-use Rattle.std.specs.Prelude.{ℕ, ◌+◌, pos, Bool, true, false, not, ◌&&◌, ◌||◌, ◌==◌, nat_lt, int_lt, if◌then◌else◌, List, [], ◌∷◌, length, fold, replicate, slice_get, slice_set, unwrap_or, Option, Some, None}
+use Rattle.std.specs.Prelude.{ℕ, ◌+◌, pos, Bool, true, false, not, ◌&&◌, ◌||◌, ◌==◌, nat_lt, int_lt, if◌then◌else◌, List, [], ◌∷◌, length}
+use Rattle.std.specs.Prelude.{fold, replicate, slice_get, slice_set, unwrap_or, Option, Some, None}
 use Rattle.std.specs.List.{list_any}
 use Rattle.fd_words.specs.declared.place.Role.{Role}
 use Rattle.chaos_dist.specs.declared.step_form.StepForm.{StepForm}
@@ -7,7 +8,7 @@ use Rattle.chaos_dist.specs.declared.step_form.StepForm.TheVariants.{Regular, Ma
 use Rattle.fd_program.specs.Homes.{first_target}
 use Rattle.fd_program.specs.Places.{decomposition_of}
 use Rattle.fd_program.specs.Trace.{site_at, is_empty_turn}
-use Rattle.fd_program.specs.Uses.{is_index, is_target}
+use Rattle.fd_words.specs.Roles.{is_index, is_target}
 use Rattle.fd_program.specs.declared.array.ArrayFacts.{ArrayFacts}
 use Rattle.fd_program.specs.declared.checked.Checked.{Checked}
 use Rattle.fd_program.specs.declared.loop_facts.HomeRule.{HomeRule}
@@ -18,9 +19,9 @@ use Rattle.fd_program.specs.declared.site.Site.{Site}
 use Rattle.fd_program.specs.declared.trace.LoopTurn.{LoopTurn}
 use Rattle.fd_program.specs.declared.trace.Step.{Step}
 use Rattle.fd_program.specs.declared.trace.Step.TheVariants.{Distribute, Print, Forall}
-use Rattle.chaos_phases.specs.LoopLetters.{is_map}
-use Rattle.chaos_phases.specs.declared.loop_phase.Asking.{Asking}
-use Rattle.chaos_phases.specs.declared.loop_phase.Asking.TheVariants.{Indexes, Homes, References}
+use Rattle.fd_program.specs.Met.{is_map}
+use Rattle.plan_loop.specs.declared.loop_phase.Asking.{Asking}
+use Rattle.plan_loop.specs.declared.loop_phase.Asking.TheVariants.{Indexes, Homes, References}
 use Rattle.chaos_records.specs.Keeping.{no_records, setting_in, is_repeated, moved, written, record_in, differs}
 use Rattle.chaos_records.specs.declared.records.Records.{Records}
 use Rattle.chaos_count.specs.declared.known.Known.{Known}

@@ -4,7 +4,7 @@ use Rattle.std.specs.List.{list_any}
 use Rattle.std.proofs.Common.{ap, sym, ◌∙◌, subst}
 use Rattle.fd_program.specs.Past.{has_target}
 use Rattle.fd_program.specs.Trace.{site_at, is_empty_turn}
-use Rattle.fd_program.specs.Uses.{is_target}
+use Rattle.fd_words.specs.Roles.{is_target}
 use Rattle.fd_program.specs.declared.checked.Checked.{Checked}
 use Rattle.fd_program.specs.declared.reference.Reference.{Reference}
 use Rattle.fd_program.specs.declared.trace.LoopTurn.{LoopTurn}
@@ -26,12 +26,14 @@ abbrev targets_in : List Reference → List ℕ
 targets_in [] = []
 targets_in (x ∷ xs) = if is_target x.role then x.array ∷ targets_in xs else targets_in xs
 
-fold_targets : (execution : ℕ) (r : Records) (xs : List Reference) → fold (noted execution) r xs ≡ fold (written execution) r (targets_in xs)
+fold_targets : (execution : ℕ) (r : Records) (xs : List Reference) → fold (noted execution) r xs ≡ fold (written execution) r
+    (targets_in xs)
 fold_targets execution r [] = refl
 fold_targets execution r (x ∷ xs) = by (is_target x.role) (λ r. fold_targets execution r xs)
   where
     by : (b : Bool) → ((r : Records) → fold (noted execution) r xs ≡ fold (written execution) r (targets_in xs))
-        → fold (noted execution) (if b then written execution r x.array else r) xs ≡ fold (written execution) r (if b then x.array ∷ targets_in xs else targets_in xs)
+        → fold (noted execution) (if b then written execution r x.array else r) xs ≡ fold (written execution) r
+        (if b then x.array ∷ targets_in xs else targets_in xs)
     by true rest = rest (written execution r x.array)
     by false rest = rest r
 

@@ -1,16 +1,14 @@
 ghost use Rattle.std.specs.Prelude.{◌≡◌, ◌≤◌, ◌<◌, ◌==◌, ◌^◌, not};
 ghost use Rattle.std.specs.List.{list_any};
-ghost use Rattle.fd_program.specs.Homes.{first_target as first_target_of};
-ghost use Rattle.fd_program.specs.Places.{decomposition_of};
-ghost use Rattle.fd_program.specs.Uses.{is_index as is_index_of, is_target as is_target_of};
-ghost use Rattle.chaos_phases.specs.LoopLetters.{is_map as is_map_of};
-ghost use Rattle.chaos_count.specs.Counting.{asks_in, has_index as has_index_in, inspection_count, is_asked as is_asked_in, is_for_in, is_looked_at_in, two_if as two_for};
+ghost use Rattle.fd_program.specs.Met.{is_map as is_map_of};
+ghost use Rattle.chaos_count.specs.Counting.{asks_in, has_index as has_index_in, inspection_count, is_asked as is_asked_in, is_for_in};
+ghost use Rattle.chaos_count.specs.Counting.{is_looked_at_in, two_if as two_for};
 
 use chaos_dist::StepForm;
-use chaos_phases::Asking;
 use chaos_records::Records;
-use fd_program::{ArrayFacts, CheckedBody, HomeRule, Reference, Site};
+use fd_program::{ArrayFacts, HomeRule, Reference, Site, decomposition, first_target};
 use fd_words::Role;
+use plan_loop::Asking;
 
 /// The phases of an inspection of a FORALL without an offence, as the decompositions are now.
 pub(crate) fn inspection_phases(
@@ -40,7 +38,7 @@ fn two_if(is: bool) -> u64
 fn has_index(references: &[Reference]) -> bool
     ensures { result ≡ has_index_in references.now }
 {
-    references.iter().any(|reference| is_index(reference.role))
+    references.iter().any(|reference| reference.role.is_index())
 }
 
 /// Whether places are asked for, since a reference that the asking is for has a map layout.
@@ -83,9 +81,9 @@ fn is_for(rule: HomeRule, target: u32, asking: Asking, place: usize, role: Role)
     ensures { result ≡ is_for_in rule target asking place role }
 {
     match asking {
-        Asking::Indexes => is_index(role),
+        Asking::Indexes => role.is_index(),
         Asking::Homes => is_looked_at(rule, target, place),
-        Asking::References => !is_index(role),
+        Asking::References => !role.is_index(),
     }
 }
 
@@ -100,56 +98,11 @@ fn is_looked_at(rule: HomeRule, target: u32, place: usize) -> bool
     }
 }
 
-/// The reference number of the first statement's target.
-fn first_target(body: &[CheckedBody]) -> u32
-    ensures { result ≡ first_target_of body.now }
-{
-    match body.first() {
-        Some(CheckedBody::Assign { target, value: _ }) => *target,
-        Some(
-            CheckedBody::Reduce {
-                operator: _,
-                target,
-                value: _,
-            },
-        ) => *target,
-        None => 0,
-    }
-}
-
-/// The decomposition of an array.
-fn decomposition(arrays: &[ArrayFacts], array: u32) -> u32
-    ensures { result ≡ decomposition_of arrays.now array }
-{
-    match arrays.get(array as usize) {
-        Some(facts) => facts.decomposition,
-        None => 0,
-    }
-}
-
 fn is_map(form: StepForm) -> bool
     ensures { result ≡ is_map_of form }
 {
     match form {
         StepForm::Regular(_) => false,
         StepForm::Map(_) => true,
-    }
-}
-
-fn is_index(role: Role) -> bool
-    ensures { result ≡ is_index_of role }
-{
-    match role {
-        Role::Index => true,
-        Role::Read | Role::Target => false,
-    }
-}
-
-pub(crate) fn is_target(role: Role) -> bool
-    ensures { result ≡ is_target_of role }
-{
-    match role {
-        Role::Target => true,
-        Role::Read | Role::Index => false,
     }
 }

@@ -2,7 +2,8 @@ ghost use Rattle.std.specs.Prelude.{◌≡◌, ◌<◌, ◌≤◌, ◌^◌, if�
 ghost use Rattle.fd_program.specs.Checks.{IsChecked};
 ghost use Rattle.fd_program.specs.Trace.{site_at};
 ghost use Rattle.chaos_records.specs.Keeping.{is_repeated, record_in};
-ghost use Rattle.chaos_count.specs.Counting.{known_after, known_after_forall, known_after_loop, known_after_move, forall_count, loop_count, moving_count, nothing_known, stage_count};
+ghost use Rattle.chaos_count.specs.Counting.{known_after, known_after_forall, known_after_loop, known_after_move, forall_count, loop_count};
+ghost use Rattle.chaos_count.specs.Counting.{moving_count, nothing_known, stage_count};
 
 use crate::asking::inspection_phases;
 use crate::noting::{Latest, is_new, keep, moving_phases, none_latest, note_move, note_writes};

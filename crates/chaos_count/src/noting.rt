@@ -1,9 +1,8 @@
 ghost use Rattle.std.specs.Prelude.{◌≡◌, ◌<◌, ◌≤◌, ◌^◌, fold, replicate, slice_set, if◌then◌else◌, Some, None, IfOk};
-ghost use Rattle.fd_program.specs.Uses.{is_target as is_target_of};
+ghost use Rattle.fd_words.specs.Roles.{is_target as is_target_of};
 ghost use Rattle.chaos_records.specs.Keeping.{differs, written};
 ghost use Rattle.chaos_count.specs.Counting.{latest_at, moved_in, moving_count, noted};
 
-use crate::asking::is_target;
 use chaos_dist::StepForm;
 use chaos_records::{Records, must_inspect};
 use fd_program::{LoopRecord, Reference};
@@ -49,7 +48,7 @@ fn note_target(records: &mut Records, role: Role, array: u32, execution: u64)
     requires { execution < 2 ^ 32 }
     ensures { records.new ≡ (if is_target_of role then written execution records.old array else records.old) }
 {
-    if is_target(role) && u64::from(array) < records.arrays() {
+    if role.is_target() && u64::from(array) < records.arrays() {
         records.note_write(array, execution);
     }
 }

@@ -1,6 +1,7 @@
 -- Recursive coordinate bisection, after Berger and Bokhari, as the partitioners of CHAOS have it: elements that stand in space are cut
 -- into parts, each cut along the axis of the greatest spread.
-use Rattle.std.specs.Prelude.{ℕ, zero, suc, ◌+◌, ◌-◌, ◌*◌, ◌/◌, ◌%◌, ◌^◌, ◌&&◌, ◌||◌, ℤ, pos, negsuc, ◌-ℤ◌, Bool, not, if◌then◌else◌, List, [], ◌∷◌, length, map, filter, fold, flat_map, min, nat_lt, nat_le, int_lt, slice_get, unwrap_or, count_by}
+use Rattle.std.specs.Prelude.{ℕ, zero, suc, ◌+◌, ◌-◌, ◌*◌, ◌/◌, ◌%◌, ◌^◌, ◌&&◌, ◌||◌, ℤ, pos, negsuc, ◌-ℤ◌, Bool, not, if◌then◌else◌, List}
+use Rattle.std.specs.Prelude.{[], ◌∷◌, length, map, filter, fold, flat_map, min, nat_lt, nat_le, int_lt, slice_get, unwrap_or, count_by}
 use Rattle.std.specs.Int.{int_min, int_max}
 use Rattle.std.specs.Ordering.{int_eq}
 use Rattle.chaos_dist.specs.Counting.{up_to, below}

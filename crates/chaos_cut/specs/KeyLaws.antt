@@ -1,5 +1,6 @@
 -- The order of keys is that of coordinate and number, and no two elements have a key in common.
-use Rattle.std.specs.Prelude.{◌≡◌, ℕ, zero, suc, ◌+◌, ◌-◌, ◌*◌, ◌^◌, ◌≤◌, ◌<◌, ◌==◌, ◌&&◌, ◌||◌, ℤ, pos, negsuc, ◌+ℤ◌, Bool, true, false, cond, List, filter, count_by, nat_lt, int_lt, unsigned_abs, FitsSigned}
+use Rattle.std.specs.Prelude.{◌≡◌, ℕ, zero, suc, ◌+◌, ◌-◌, ◌*◌, ◌^◌, ◌≤◌, ◌<◌, ◌==◌, ◌&&◌, ◌||◌, ℤ, pos, negsuc, ◌+ℤ◌, Bool, true, false}
+use Rattle.std.specs.Prelude.{cond, List, filter, count_by, nat_lt, int_lt, unsigned_abs, FitsSigned}
 use Rattle.std.specs.Int.{w64}
 use Rattle.std.specs.Ordering.{int_eq}
 use Rattle.std.proofs.Common.{ap, sym, ◌∙◌, arith, refl, inl, inr}
@@ -8,7 +9,7 @@ use Rattle.std.proofs.lemmas.Bool.Decides.{nat_tests}
 use Rattle.std.proofs.lemmas.Int.{ints}
 use Rattle.chaos_dist.specs.Counting.{up_to, count_up_to, kth_up_to, count_by-up_to}
 use Rattle.chaos_cut.specs.Bisection.{coordinate, is_before}
-use Rattle.chaos_cut.specs.Counts.{count_by-filter}
+use Rattle.list_laws.specs.Counts.{count_by-filter}
 use Rattle.chaos_cut.specs.Keys.{key_of, key_in}
 
 -- ---- the order

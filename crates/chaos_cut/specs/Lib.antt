@@ -1,6 +1,5 @@
 pub mod Bisection
 pub mod Keys
-pub mod Counts
 pub mod Search
 pub mod KeyLaws
 pub mod Told

@@ -1,5 +1,6 @@
 -- What holds of the regions of each level.
-use Rattle.std.specs.Prelude.{◌≡◌, ℕ, zero, suc, ◌+◌, ◌-◌, ◌^◌, ◌≤◌, ◌<◌, ◌==◌, ◌&&◌, Bool, true, false, not, cond, List, [], ◌∷◌, ◌++◌, length, filter, flat_map, nat_lt, nat_le, count_by, FitsSigned}
+use Rattle.std.specs.Prelude.{◌≡◌, ℕ, zero, suc, ◌+◌, ◌-◌, ◌^◌, ◌≤◌, ◌<◌, ◌==◌, ◌&&◌, Bool, true, false, not, cond, List, [], ◌∷◌, ◌++◌}
+use Rattle.std.specs.Prelude.{length, filter, flat_map, nat_lt, nat_le, count_by, FitsSigned}
 use Rattle.std.specs.Int.{w64}
 use Rattle.std.specs.List.{range_with_len, AllByRecursion}
 use Rattle.std.proofs.Common.{ap, sym, ◌∙◌, subst, arith, refl}
@@ -8,8 +9,9 @@ use Rattle.std.proofs.lemmas.Bool.Decides.{nat_tests}
 use Rattle.std.proofs.lemmas.List.Filters.{length-filter_both}
 use Rattle.std.proofs.lemmas.Nat.{pow_pos}
 use Rattle.chaos_dist.specs.Counting.{up_to}
-use Rattle.chaos_cut.specs.Bisection.{Axes, Region, axis_at, coordinate, is_before, count_before, widest_axis, cut_axis, cut_size, goes_first, first_half, second_half, halves, part_in, regions_at, whole}
-use Rattle.chaos_cut.specs.Counts.{count_by-agree}
+use Rattle.chaos_cut.specs.Bisection.{Axes, Region, axis_at, coordinate, is_before, count_before, widest_axis, cut_axis, cut_size}
+use Rattle.chaos_cut.specs.Bisection.{goes_first, first_half, second_half, halves, part_in, regions_at, whole}
+use Rattle.list_laws.specs.Counts.{count_by-agree}
 use Rattle.chaos_cut.specs.Depth.{single, goes_on, twice}
 use Rattle.chaos_cut.specs.Keys.{key_in, keys_below, found_in}
 use Rattle.chaos_cut.specs.KeyLaws.{IsElement, order_is_keys, key_under, no_key_twice}

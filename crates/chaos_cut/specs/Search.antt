@@ -6,7 +6,7 @@ use Rattle.std.proofs.lemmas.Bool.{cond_both, ltb-true, ltb-false, cases_lt}
 use Rattle.std.proofs.lemmas.Bool.Decides.{nat_tests}
 use Rattle.std.proofs.lemmas.List.Sums.{length-filter}
 use Rattle.std.proofs.lemmas.Nat.{pow-add}
-use Rattle.chaos_cut.specs.Counts.{count_by-grows, count_by-none, count_by-all, count_by-next, count_by-same}
+use Rattle.list_laws.specs.Counts.{count_by-grows, count_by-none, count_by-all, count_by-next, count_by-same}
 use Rattle.chaos_cut.specs.Keys.{next_found, found_after}
 
 -- fewer than c are below v, and c or more are below v + 1

@@ -1,13 +1,15 @@
 -- The parts of the map have their sizes.
-use Rattle.std.specs.Prelude.{◌≡◌, ℕ, zero, suc, ◌+◌, ◌-◌, ◌/◌, ◌%◌, ◌^◌, ◌≤◌, ◌<◌, ◌==◌, Bool, true, false, cond, List, [], ◌∷◌, length, flat_map, nat_lt, nat_le, count_by}
+use Rattle.std.specs.Prelude.{◌≡◌, ℕ, zero, suc, ◌+◌, ◌-◌, ◌/◌, ◌%◌, ◌^◌, ◌≤◌, ◌<◌, ◌==◌, Bool, true, false, cond, List, [], ◌∷◌, length}
+use Rattle.std.specs.Prelude.{flat_map, nat_lt, nat_le, count_by}
 use Rattle.std.specs.List.{AllByRecursion}
 use Rattle.std.proofs.Common.{ap, sym, ◌∙◌, subst, arith, refl, inl, inr}
 use Rattle.std.proofs.lemmas.Bool.{cases_lt}
 use Rattle.std.proofs.lemmas.Bool.Decides.{nat_tests}
 use Rattle.std.proofs.Math.Nat.{div-one, mod-one}
 use Rattle.chaos_dist.specs.Counting.{up_to}
-use Rattle.chaos_cut.specs.Bisection.{Axes, Region, first_half, second_half, cut_size, halves, levels_of, map_of, part_in, part_of, regions_at, whole}
-use Rattle.chaos_cut.specs.Counts.{count_by-map, first_counted}
+use Rattle.chaos_cut.specs.Bisection.{Axes, Region, first_half, second_half, cut_size, halves, levels_of, map_of, part_in, part_of}
+use Rattle.chaos_cut.specs.Bisection.{regions_at, whole}
+use Rattle.list_laws.specs.Counts.{count_by-map, first_counted}
 use Rattle.chaos_cut.specs.Cover.{AreConsecutive, elements_in, count-first, regions_cover, regions_are_consecutive}
 use Rattle.chaos_cut.specs.Depth.{levels_are_enough}
 use Rattle.chaos_cut.specs.Regions.{AreSigned, IsSound, all_append, first_length, second_length, length-range, sound_at}

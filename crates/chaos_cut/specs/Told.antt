@@ -1,5 +1,6 @@
 -- What a node has of some elements, and what the others tell it of theirs, make what holds of all.
-use Rattle.std.specs.Prelude.{◌≡◌, ℕ, zero, suc, ◌+◌, ◌≤◌, ◌<◌, ◌==◌, ◌^◌, ◌-◌, ℤ, pos, negsuc, Bool, true, false, not, cond, List, [], ◌∷◌, map, filter, fold, count_by}
+use Rattle.std.specs.Prelude.{◌≡◌, ℕ, zero, suc, ◌+◌, ◌≤◌, ◌<◌, ◌==◌, ◌^◌, ◌-◌, ℤ, pos, negsuc, Bool, true, false, not, cond, List, [], ◌∷◌}
+use Rattle.std.specs.Prelude.{map, filter, fold, count_by}
 use Rattle.std.specs.Int.{int_min, int_max}
 use Rattle.std.specs.List.{range_with_len, AllByRecursion}
 use Rattle.std.proofs.Common.{ap, sym, ◌∙◌, arith, refl, inl, inr}

@@ -1,5 +1,6 @@
 -- The answers to the asks, joined.
-use Rattle.std.proofs.Common.{◌≡◌, refl, ℕ, zero, suc, ◌+◌, ◌*◌, ◌-◌, ◌≤◌, ◌<◌, Bool, true, false, ◌==◌, cond, List, [], ◌∷◌, ◌++◌, length, take, map, filter, count_by, get_or, ap, sym, subst, ◌∙◌, arith, add-zero}
+use Rattle.std.proofs.Common.{◌≡◌, refl, ℕ, zero, suc, ◌+◌, ◌*◌, ◌-◌, ◌≤◌, ◌<◌, Bool, true, false, ◌==◌, cond, List, [], ◌∷◌, ◌++◌, length}
+use Rattle.std.proofs.Common.{take, map, filter, count_by, get_or, ap, sym, subst, ◌∙◌, arith, add-zero}
 use Rattle.std.specs.Prelude.{ℤ, pos, Option, Some, None, All, slice_get, unwrap_or, sum_by, nat_lt, flat_map}
 use Rattle.std.specs.List.{range_with_len}
 use Rattle.std.specs.Int.{w64, cast_signed}
@@ -12,20 +13,11 @@ use Rattle.std.proofs.lemmas.List.Sums.{sum_by-cons}
 use Rattle.fd_words.specs.Lists.{list_at}
 use Rattle.fd_words.specs.declared.place.Place.{Place}
 use Rattle.chaos_dist.specs.Counting.{below}
+use Rattle.chaos_dist.specs.OwnersLaws.{get_range}
 use Rattle.chaos_table.specs.declared.pages.Pages.{Pages}
-use Rattle.chaos_deref.specs.Asking.{page_for, asks_for, nowhere, place_named, numbers_of, answers_to, owner_read, local_read, place_read, joined_at, joined}
+use Rattle.chaos_deref.specs.Asking.{page_for, asks_for, nowhere, place_named, numbers_of, answers_to, owner_read, local_read, place_read}
+use Rattle.chaos_deref.specs.Asking.{joined_at, joined}
 use Rattle.chaos_deref.specs.Laws.{IsSent, all_answers}
-
-get_range : {B : Type 0} (f : ℕ → B) (a k n : ℕ) → k < n → slice_get (map f (range_with_len a n)) k ≡ Some (f (a + k))
-get_range f a k zero h = absurd (omega arith)
-get_range f a zero (suc n) h = ap (λ x. Some (f x)) (sym (add-zero a))
-get_range f a (suc k) (suc n) h = get_range f (a + 1) k n (less k n h) ∙ ap (λ x. Some (f x)) (more a k)
-  where
-    less : (k n : ℕ) → suc k < suc n → k < n
-    less k n h = omega arith
-
-    more : (a k : ℕ) → a + 1 + k ≡ a + suc k
-    more a k = omega arith
 
 -- the list at a page of a family of lists
 list_family : {B : Type 0} (f : ℕ → List B) (n p : ℕ) → p < n → list_at (map f (below n)) p ≡ f p
@@ -41,7 +33,8 @@ not_there v e = cc
 same_item : (x v : ℤ) → Some x ≡ Some v → x ≡ v
 same_item x v e = ap (λ o. unwrap_or o x) e
 
-ranked : (t : ℤ → Bool) (xs : List ℤ) (i : ℕ) (v : ℤ) → slice_get xs i ≡ Some v → t v ≡ true → slice_get (filter t xs) (count_by t (take i xs)) ≡ Some v
+ranked : (t : ℤ → Bool) (xs : List ℤ) (i : ℕ) (v : ℤ) → slice_get xs i ≡ Some v → t v ≡ true
+    → slice_get (filter t xs) (count_by t (take i xs)) ≡ Some v
 ranked t [] i v at passes = not_there v at
 ranked t (x ∷ xs) zero v at passes =
     let test : t x ≡ true = ap t (same_item x v at) ∙ passes in
@@ -78,7 +71,8 @@ read_first place rest sent =
     ap (λ o. made o (local_read (Some (cast_signed w64 place.local)))) (small_owner place.owner sent.0)
     ∙ ap (λ z. made place.owner (local_read (Some z))) (sent_local place.local sent.1)
 
-read_answer : (page : Pages) (xs : List ℤ) (r j k : ℕ) (v : ℤ) → j ≡ 2 * r → k ≡ 2 * r + 1 → slice_get xs r ≡ Some v → IsSent (place_named page v)
+read_answer : (page : Pages) (xs : List ℤ) (r j k : ℕ) (v : ℤ) → j ≡ 2 * r → k ≡ 2 * r + 1 → slice_get xs r ≡ Some v
+    → IsSent (place_named page v)
     → read_at (answers_to page xs) j k ≡ place_named page v
 read_answer page [] r j k v first second at sent = not_there v at
 read_answer page (x ∷ xs) zero j k v first second at sent =
@@ -105,24 +99,30 @@ pub asking-gives_places : (extent nodes : ℕ) (pages : ℕ → Pages) (wanted :
 asking-gives_places extent nodes pages wanted low sent =
     let answers = all_answers extent nodes pages wanted in
     let place = λ (v : ℤ). place_named (pages (page_for extent nodes v)) v in
-    let long : length (joined extent nodes wanted answers) ≡ length wanted = length-map-range_with_len (joined_at extent nodes wanted answers) 0 (length wanted) in
+    let long : length (joined extent nodes wanted answers) ≡ length wanted =
+    length-map-range_with_len (joined_at extent nodes wanted answers) 0 (length wanted) in
     let short : length (map place wanted) ≡ length wanted = length-map wanted place in
     ext_get_or nowhere (joined extent nodes wanted answers) (map place wanted) (long ∙ sym short)
     (λ i under.
     let here : i < length wanted = subst (λ k. i < k) long under in
     let at : 0 + i ≡ i = omega arith in
     get_or-map-range_with_len (joined_at extent nodes wanted answers) 0 (length wanted) i i nowhere here at
-    ∙ one extent nodes pages wanted i (get_or wanted i (pos 0)) (slice_get-get_or wanted i (pos 0) here) refl (low i (pos 0) here) (sent i (pos 0) here)
+    ∙ one extent nodes pages wanted i (get_or wanted i (pos 0)) (slice_get-get_or wanted i (pos 0) here) refl (low i (pos 0) here)
+    (sent i (pos 0) here)
     ∙ sym (get_or-map place wanted i (pos 0) nowhere here))
   where
-    one : (extent nodes : ℕ) (pages : ℕ → Pages) (wanted : List ℤ) (i : ℕ) (v : ℤ) → slice_get wanted i ≡ Some v → get_or wanted i (pos 0) ≡ v
+    one : (extent nodes : ℕ) (pages : ℕ → Pages) (wanted : List ℤ) (i : ℕ) (v : ℤ) → slice_get wanted i ≡ Some v
+        → get_or wanted i (pos 0) ≡ v
         → page_for extent nodes v < nodes → IsSent (place_named (pages (page_for extent nodes v)) v)
         → joined_at extent nodes wanted (all_answers extent nodes pages wanted) i ≡ place_named (pages (page_for extent nodes v)) v
     one extent nodes pages wanted i v at is low sent =
         let p = page_for extent nodes v in
         let test = λ (y : ℤ). page_for extent nodes y == p in
         let rank = count_by test (take i wanted) in
-        ap (λ y. place_read (list_at (all_answers extent nodes pages wanted) (page_for extent nodes y)) (count_by (λ x. page_for extent nodes x == page_for extent nodes y) (take i wanted))) is
+        ap (λ y. place_read (list_at (all_answers extent nodes pages wanted) (page_for extent nodes y))
+        (count_by (λ x. page_for extent nodes x == page_for extent nodes y) (take i wanted))) is
         ∙ ap (λ l. place_read l rank) (list_family (λ q. answers_to (pages q) (list_at (asks_for extent nodes wanted) q)) nodes p low)
-        ∙ ap (λ l. place_read (answers_to (pages p) l) rank) (list_family (λ q. filter (λ y. page_for extent nodes y == q) wanted) nodes p low)
-        ∙ read_answer (pages p) (filter test wanted) rank (2 * rank) (2 * rank + 1) v refl refl (ranked test wanted i v at (same_number p)) sent
+        ∙ ap (λ l. place_read (answers_to (pages p) l) rank) (list_family (λ q. filter (λ y. page_for extent nodes y == q) wanted) nodes p
+        low)
+        ∙ read_answer (pages p) (filter test wanted) rank (2 * rank) (2 * rank + 1) v refl refl
+        (ranked test wanted i v at (same_number p)) sent

@@ -1,5 +1,6 @@
 -- Elements asked of the pages that cover them, and the answers.
-use Rattle.std.specs.Prelude.{ℕ, ◌+◌, ◌*◌, ℤ, pos, negsuc, ◌≤ℤ◌, ◌==◌, if◌then◌else◌, List, [], ◌∷◌, map, filter, flat_map, length, take, slice_get, count_by, unwrap_or, unsigned_abs, Option, Some, None, nat_lt}
+use Rattle.std.specs.Prelude.{ℕ, ◌+◌, ◌*◌, ℤ, pos, negsuc, ◌≤ℤ◌, ◌==◌, if◌then◌else◌, List, [], ◌∷◌, map, filter, flat_map, length, take}
+use Rattle.std.specs.Prelude.{slice_get, count_by, unwrap_or, unsigned_abs, Option, Some, None, nat_lt}
 use Rattle.std.specs.List.{slice_index_or}
 use Rattle.std.specs.Int.{w64, cast_signed}
 use Rattle.chaos_dist.specs.Counting.{below}
@@ -53,7 +54,10 @@ local_read (Some (pos n)) = n
 
 -- the answer at a place of a list of answers, from 0
 abbrev pub place_read : List ℤ → ℕ → Place
-place_read answers rank = record { owner = owner_read (slice_get answers (2 * rank)); local = local_read (slice_get answers (2 * rank + 1)) }
+place_read answers rank = record {
+  owner = owner_read (slice_get answers (2 * rank));
+  local = local_read (slice_get answers (2 * rank + 1));
+}
 
 -- the place of the wanted element at k, from 0: behind the answers to those of its page before it
 abbrev pub joined_at : ℕ → ℕ → List ℤ → List (List ℤ) → ℕ → Place

@@ -1,11 +1,10 @@
 -- Asking all pages, and putting the answers together.
 use Rattle.std.specs.Prelude.{◌≡◌, ℕ, ◌≤◌, ◌<◌, ℤ, List, length, map, unsigned_abs, All}
 use Rattle.chaos_dist.specs.Counting.{below}
-use Rattle.chaos_dist.specs.Owners.{owner_in, local_in}
 use Rattle.fd_words.specs.Lists.{list_at}
 use Rattle.fd_words.specs.declared.place.Place.{Place}
 use Rattle.chaos_table.specs.declared.pages.Pages.{Pages}
-use Rattle.chaos_table.specs.Pages.{owners_on, counts_of, page_given}
+use Rattle.chaos_table.specs.Pages.{owners_on, counts_of, page_given, place_in}
 use Rattle.chaos_table.specs.Laws.{IsCovered}
 use Rattle.chaos_deref.specs.Asking.{IsElement, page_for, asks_for, place_named, answers_to, joined}
 
@@ -25,10 +24,6 @@ AskingGivesPlaces = (extent nodes : ℕ) (pages : ℕ → Pages) (wanted : List 
 
 -- ---- all pages of a layout
 
--- the place of element g under a layout
-abbrev pub place_in : List ℕ → ℕ → Place
-place_in owners g = record { owner = owner_in owners g; local = local_in owners g }
-
 -- a layout spread over its pages: the pairs of each page cover it once, and the counts are those of the pages
 pub record IsSpread (nodes : ℕ) (owners : List ℕ) (pairs : ℕ → List (List ℤ)) (counts : List (List ℤ)) : Type 0 where
   pub some : 1 ≤ nodes
@@ -39,7 +34,9 @@ pub record IsSpread (nodes : ℕ) (owners : List ℕ) (pairs : ℕ → List (Lis
 
 -- then asking gives each wanted element's place under the layout
 abbrev pub AskingGivesLayout : Type 0
-AskingGivesLayout = (nodes : ℕ) (owners : List ℕ) (pairs : ℕ → List (List ℤ)) (counts : List (List ℤ)) (wanted : List ℤ) → IsSpread nodes owners pairs counts
+AskingGivesLayout = (nodes : ℕ) (owners : List ℕ) (pairs : ℕ → List (List ℤ)) (counts : List (List ℤ)) (wanted : List ℤ)
+    → IsSpread nodes owners pairs counts
     → All (IsElement (length owners)) wanted
-    → joined (length owners) nodes wanted (all_answers (length owners) nodes (λ page. page_given (length owners) nodes page (pairs page) counts) wanted)
+    → joined (length owners) nodes wanted (all_answers (length owners) nodes (λ page. page_given (length owners) nodes page
+    (pairs page) counts) wanted)
     ≡ map (λ v. place_in owners (unsigned_abs v)) wanted

@@ -3,11 +3,9 @@ ghost use Rattle.fd_words.specs.Lists.{list_at};
 ghost use Rattle.chaos_deref.specs.Asking.{IsElement, owner_read, local_read, place_read, joined};
 
 use crate::asks::page_at;
+use chaos_dist::MOST_NODES;
 use fd_words::{Memory, NumberLists, Numbers, Place, Places};
 use std::alloc::Global;
-
-/// The most nodes that there can be.
-const MOST_NODES: usize = 16;
 
 /// The places in the order of `wanted`: list p of `answers` has what page p answers to its asks.
 pub fn join_answers(

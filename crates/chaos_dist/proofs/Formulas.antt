@@ -19,7 +19,8 @@ pub record StaysBelow (w n node l top : ℕ) : Type 0 where
   pub element : (l / w * n + node) * w + l % w < top
   pub from_one : (l / w * n + node) * w + l % w + 1 < top
 
-pub StaysBelow-element : (shape : Shape) (e n node l w n' node' top : ℕ) → 1 ≤ n → 1 ≤ width_of shape e n → node < n → l < length_of shape e n node
+pub StaysBelow-element : (shape : Shape) (e n node l w n' node' top : ℕ) → 1 ≤ n → 1 ≤ width_of shape e n → node < n
+    → l < length_of shape e n node
     → w ≡ width_of shape e n → n' ≡ n → node' ≡ node → e < top → StaysBelow w n' node' l top
 StaysBelow-element shape e n node l w n' node' top nodes width is_node place ew en ep ht =
     let below : element_at (width_of shape e n) n node l < e = element_at-below shape e n node l nodes width is_node place in

@@ -1,8 +1,10 @@
 -- How many of the numbers 1 to n pass a test, and which of them is the k-th.
-use Rattle.std.specs.Prelude.{◌≡◌, refl, ℕ, zero, suc, ◌+◌, ◌-◌, ◌≤◌, ◌<◌, Bool, true, false, cond, if◌then◌else◌, List, [], ◌∷◌, ◌++◌, Some, length, filter, slice_get, count_by}
+use Rattle.std.specs.Prelude.{◌≡◌, refl, ℕ, zero, suc, ◌+◌, ◌-◌, ◌≤◌, ◌<◌, Bool, true, false, cond, if◌then◌else◌, List, [], ◌∷◌, ◌++◌}
+use Rattle.std.specs.Prelude.{Some, length, map, filter, slice_get, unwrap_or, count_by}
 use Rattle.std.specs.List.{range_with_len}
-use Rattle.std.proofs.Common.{ap, sym, ◌∙◌, subst, arith, add-zero, inl, inr}
+use Rattle.std.proofs.Common.{ap, sym, ◌∙◌, subst, arith, add-zero, add-one, inl, inr}
 use Rattle.std.proofs.lemmas.Bool.{cases_lt}
+use Rattle.std.proofs.lemmas.List.{map-append}
 use Rattle.std.proofs.lemmas.List.Elements.{filter-append}
 use Rattle.std.proofs.lemmas.List.Sums.{sum_by_push, length-filter}
 
@@ -60,7 +62,8 @@ count_up_to-passes p (suc m) n low high e =
     rw back (omega (arith, count_up_to-grows p (suc m) n high, one))
 
 -- two that pass, with as many before them, are one
-pub count_up_to-only : (p : ℕ → Bool) (g h : ℕ) → 1 ≤ g → 1 ≤ h → p g ≡ true → p h ≡ true → count_up_to p (g - 1) ≡ count_up_to p (h - 1) → g ≡ h
+pub count_up_to-only : (p : ℕ → Bool) (g h : ℕ) → 1 ≤ g → 1 ≤ h → p g ≡ true → p h ≡ true → count_up_to p (g - 1) ≡ count_up_to p (h - 1)
+    → g ≡ h
 count_up_to-only p g h some also e f same =
     elim (cases_lt g h) [
       | inl less ↦
@@ -155,7 +158,8 @@ get_end [] y = refl
 get_end (x ∷ xs) y = get_end xs y
 
 -- a number that passes stands in the list of them behind those before it
-pub slice_get-filter-up_to : (p : ℕ → Bool) (n g : ℕ) → 1 ≤ g → g ≤ n → p g ≡ true → slice_get (filter p (up_to n)) (count_up_to p (g - 1)) ≡ Some g
+pub slice_get-filter-up_to : (p : ℕ → Bool) (n g : ℕ) → 1 ≤ g → g ≤ n → p g ≡ true
+    → slice_get (filter p (up_to n)) (count_up_to p (g - 1)) ≡ Some g
 slice_get-filter-up_to p zero g from_one within passes = absurd (omega arith)
 slice_get-filter-up_to p (suc n) g from_one within passes =
     ap (λ l. slice_get l (count_up_to p (g - 1))) (up_to_kept p n) ∙ elim (cases_lt n g) [
@@ -174,3 +178,21 @@ slice_get-filter-up_to p (suc n) g from_one within passes =
           ∙ get_end (filter p (up_to n)) (suc n)
           ∙ ap Some (sym last)
     ]
+
+-- ---- lists by their places
+
+-- one number more, gone through
+pub map-below-one : {A : Type 0} (f : ℕ → A) (k : ℕ) (xs ys : List A) (x : A) → xs ≡ map f (below k) → x ≡ f k → ys ≡ xs ++ x ∷ []
+    → ys ≡ map f (below (k + 1))
+map-below-one {A} f k xs ys x before e more =
+    more ∙ ap (λ (l : List A). l ++ x ∷ []) before ∙ ap (λ (y : A). map f (below k) ++ y ∷ []) e
+    ∙ sym (ap (λ n. map f (below n)) (add-one k) ∙ ap (map f) (below-last k) ∙ map-append f (below k) (k ∷ []))
+
+-- a list is what it has at each place
+pub place_by : (d : ℕ) (xs : List ℕ) (a : ℕ) (get : ℕ → ℕ) → ((k : ℕ) → get (a + k) ≡ unwrap_or (slice_get xs k) d)
+    → map get (range_with_len a (length xs)) ≡ xs
+place_by d [] a get same = refl
+place_by d (x ∷ xs) a get same =
+    let first : get a ≡ x = ap get (let z : a ≡ a + 0 = omega arith in z) ∙ same 0 in
+    ap (λ y. y ∷ map get (range_with_len (a + 1) (length xs))) first
+    ∙ ap (λ ys. x ∷ ys) (place_by d xs (a + 1) get (λ k. ap get (let z : a + 1 + k ≡ a + suc k = omega arith in z) ∙ same (suc k)))

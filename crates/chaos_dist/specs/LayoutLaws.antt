@@ -1,13 +1,15 @@
 -- What follows from the definitions of the regular distributions.
-use Rattle.std.specs.Prelude.{◌≡◌, refl, ℕ, ◌+◌, ◌-◌, ◌*◌, ◌/◌, ◌%◌, ◌≤◌, ◌<◌, true, ◌==◌, Some, length, slice_get, unwrap_or}
+use Rattle.std.specs.Prelude.{◌≡◌, refl, ℕ, ◌+◌, ◌-◌, ◌*◌, ◌/◌, ◌%◌, ◌≤◌, ◌<◌, true, ◌==◌, Some, length, map, slice_get, unwrap_or}
 use Rattle.std.proofs.Common.{ap, sym, ◌∙◌, subst, arith, div-one, inl, inr}
 use Rattle.std.proofs.lemmas.Nat.{div-mul-add, mod_below, div_below}
 use Rattle.std.proofs.Math.Nat.{mod-eq_of_lt, div-add-mod}
 use Rattle.std.proofs.lemmas.Bool.{cases_lt}
 use Rattle.std.proofs.lemmas.Bool.Decides.{nat_tests}
-use Rattle.chaos_dist.specs.Counting.{count_up_to, count_up_to-same, count_up_to-le, count_up_to-grows, count_up_to-passes, count_up_to-only, length-filter-up_to, slice_get-filter-up_to}
+use Rattle.chaos_dist.specs.Counting.{below, place_by, count_up_to, count_up_to-same, count_up_to-le, count_up_to-grows, count_up_to-passes}
+use Rattle.chaos_dist.specs.Counting.{count_up_to-only, length-filter-up_to, slice_get-filter-up_to}
 use Rattle.chaos_dist.specs.Layout.{divided_up, owner_of, count_on, length_of, local_of, elements_of, element_of, given_size, width_of}
-use Rattle.chaos_dist.specs.Rounds.{last_round, last_round_own, dealt_to, dealt_count, dealt_count-is, element_at, dealt_to-element_at, dealt_count-element_at}
+use Rattle.chaos_dist.specs.Rounds.{last_round, last_round_own, dealt_to, dealt_count, dealt_count-is, element_at, dealt_to-element_at}
+use Rattle.chaos_dist.specs.Rounds.{dealt_count-element_at}
 use Rattle.chaos_dist.specs.declared.shape.Shape.{Shape}
 use Rattle.chaos_dist.specs.declared.shape.Shape.TheVariants.{Block, Cyclic, BlockCyclic}
 
@@ -44,7 +46,8 @@ pub owner_of-below : (shape : Shape) (e n g : ℕ) → 1 ≤ n → g ≤ e → 1
 owner_of-below shape e n g nodes within from_one =
     subst (λ k. k < n) (sym (owner_of-dealt shape e n g nodes within from_one)) (mod_below ((g - 1) / width_of shape e n) n nodes)
 
-pub count_on-dealt : (shape : Shape) (e n node x : ℕ) → 1 ≤ n → x ≤ e → count_on shape e n node x ≡ dealt_count (width_of shape e n) n node x
+pub count_on-dealt : (shape : Shape) (e n node x : ℕ) → 1 ≤ n → x ≤ e → count_on shape e n node x ≡ dealt_count (width_of shape e n) n
+    node x
 count_on-dealt shape e n node x nodes within =
     count_up_to-same (λ h. owner_of shape e n h == node) (λ h. dealt_to (width_of shape e n) n (h - 1) == node) x
     (λ h low high. ap (λ k. k == node) (owner_of-dealt shape e n h nodes (omega arith) low))
@@ -125,12 +128,21 @@ local_of-element_at shape e n node l nodes width is_node place =
     ∙ count_on-dealt shape e n node x nodes (omega arith) ∙ dealt_count-element_at w n node l width nodes is_node
 
 -- an element stands at its local address among those of its node
-pub slice_get-elements_of : (shape : Shape) (e n g : ℕ) → 1 ≤ g → g ≤ e → slice_get (elements_of shape e n (owner_of shape e n g)) (local_of shape e n g) ≡ Some g
+pub slice_get-elements_of : (shape : Shape) (e n g : ℕ) → 1 ≤ g → g ≤ e → slice_get (elements_of shape e n (owner_of shape e n g))
+    (local_of shape e n g) ≡ Some g
 slice_get-elements_of shape e n g from_one within =
     slice_get-filter-up_to (λ h. owner_of shape e n h == owner_of shape e n g) e g from_one within (same_number (owner_of shape e n g))
 
 pub length-elements_of : (shape : Shape) (e n node : ℕ) → length (elements_of shape e n node) ≡ length_of shape e n node
 length-elements_of shape e n node = length-filter-up_to (λ g. owner_of shape e n g == node) e
+
+-- the elements of a node, one local address after another
+pub elements_by_place : (shape : Shape) (e n node : ℕ)
+    → map (element_of shape e n node) (below (length_of shape e n node)) ≡ elements_of shape e n node
+elements_by_place shape e n node =
+    ap (λ k. map (element_of shape e n node) (below k)) (sym (length-elements_of shape e n node))
+    ∙ place_by 0 (elements_of shape e n node) 0 (element_of shape e n node)
+    (λ k. ap (element_of shape e n node) (let z : 0 + k ≡ k = omega arith in z))
 
 pub element_of-place : (shape : Shape) (e n g : ℕ) → 1 ≤ g → g ≤ e → element_of shape e n (owner_of shape e n g) (local_of shape e n g) ≡ g
 element_of-place shape e n g from_one within = ap (λ o. unwrap_or o 0) (slice_get-elements_of shape e n g from_one within)

@@ -1,5 +1,6 @@
 -- A layout as the list of the owners of its elements 1, 2 and so on.
-use Rattle.std.specs.Prelude.{ℕ, ◌-◌, ◌*◌, ◌/◌, ℤ, pos, ◌==◌, List, length, take, drop, map, slice_get, unwrap_or, filter, count_by, unsigned_abs}
+use Rattle.std.specs.Prelude.{ℕ, ◌-◌, ◌*◌, ◌/◌, ℤ, pos, ◌==◌, List, length, take, drop, map, slice_get, unwrap_or, filter, count_by}
+use Rattle.std.specs.Prelude.{unsigned_abs}
 use Rattle.std.specs.Int.{int_rem_euclid}
 use Rattle.chaos_dist.specs.Counting.{up_to, below}
 use Rattle.chaos_dist.specs.Layout.{owner_of, divided_up}

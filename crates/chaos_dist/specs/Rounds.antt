@@ -116,7 +116,8 @@ dealt_count-element_at b n node l hb hn hp =
     ∙ ap (λ o. l / b * b + o) (last_round_own b node (l % b)) ∙ div-add-mod' l b
 
 -- the parts of an element's number are no larger than it
-pub le-element_at : (b n node l : ℕ) → 1 ≤ b → (l / b * n ≤ element_at b n node l) × (l / b * n + node ≤ element_at b n node l) × ((l / b * n + node) * b ≤ element_at b n node l)
+pub le-element_at : (b n node l : ℕ) → 1 ≤ b → (l / b * n ≤ element_at b n node l) × (l / b * n + node ≤ element_at b n node l)
+    × ((l / b * n + node) * b ≤ element_at b n node l)
 le-element_at b n node l hb =
     let grows : l / b * n + node ≤ (l / b * n + node) * b = le_times (l / b * n + node) b hb in
     (omega (arith, grows), omega (arith, grows), omega arith)

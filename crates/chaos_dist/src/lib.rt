@@ -5,10 +5,12 @@
 //! elements on the same node.
 #![tactic(auto)]
 
+mod counts;
 mod regular;
 mod shape;
 mod step_form;
 
+pub use counts::{MOST_NODES, tally};
 pub use regular::{Regular, layout_laws};
 pub use shape::Shape;
 pub use step_form::StepForm;

@@ -4,8 +4,9 @@ use denote.Ref.{NamedLft}
 use Rattle.std.proofs.Crossing.{crosses}
 use Rattle.sqlite_items.proofs.boxed.Boxed.TheSendSync.{the_send as Boxed-send, the_sync as Boxed-sync}
 use Rattle.sqlite_items.proofs.items.Items.TheSendSync.{the_send as Items-send, the_sync as Items-sync}
-use Rattle.fd_syntax.proofs.scalar.Arith.TheSendSync.{the_field_send as Arith-field_send, the_field_sync as Arith-field_sync}
-use Rattle.fd_words.proofs.source.SourcePlace.TheSendSync.{the_field_send as SourcePlace-field_send, the_field_sync as SourcePlace-field_sync}
+use Rattle.fd_words.proofs.arith.Arith.TheSendSync.{the_field_send as Arith-field_send, the_field_sync as Arith-field_sync}
+use Rattle.fd_words.proofs.source.SourcePlace.TheSendSync.{the_field_send as SourcePlace-field_send}
+use Rattle.fd_words.proofs.source.SourcePlace.TheSendSync.{the_field_sync as SourcePlace-field_sync}
 use Rattle.fd_words.proofs.combine.Combine.TheSendSync.{the_field_send as Combine-field_send, the_field_sync as Combine-field_sync}
 use Rattle.fd_words.proofs.place.Role.TheSendSync.{the_field_send as Role-field_send, the_field_sync as Role-field_sync}
 use Rattle.fd_program.proofs.array.ArrayFacts.TheSendSync.{the_send as ArrayFacts-send, the_sync as ArrayFacts-sync}
@@ -16,7 +17,7 @@ use Rattle.fd_program.proofs.array.LayoutName.TheSendSync.{the_sync as LayoutNam
 use Rattle.fd_program.proofs.array.OutputName.TheSendSync.{the_sync as OutputName-sync}
 use Rattle.fd_program.proofs.trace.Step.TheSendSync.{the_sync as Step-sync}
 use Rattle.chaos_dist.proofs.step_form.StepForm.TheSendSync.{the_field_sync as StepForm-field_sync}
-use Rattle.chaos_asking.proofs.asked.Asked.TheSendSync.{the_field_send as Asked-field_send}
+use Rattle.inspect_places.proofs.asked.Asked.TheSendSync.{the_field_send as Asked-field_send}
 use Rattle.chaos_inspect.proofs.spot.Spot.TheSendSync.{the_send as Spot-send}
 use Rattle.chaos_inspect.proofs.stage.Stage.TheSendSync.{the_field_send as Stage-field_send}
 use Rattle.chaos_moving.proofs.moving.Moving.TheSendSync.{the_field_send as Moving-field_send}
@@ -119,22 +120,63 @@ Reference-sync : IsSync Reference.the_row
 Reference-sync = search (sendable, Role-field_sync, CheckedSubscript-field_sync) depth 20
 
 Site-field_send : IsSend Site.the_field.row
-Site-field_send = search (sendable, SourcePlace-field_send, CheckedScalar-send, CheckedScalar-field_send, CheckedBody-send, Reference-send, Items-send) depth 20
+Site-field_send = search (
+  sendable,
+  SourcePlace-field_send,
+  CheckedScalar-send,
+  CheckedScalar-field_send,
+  CheckedBody-send,
+  Reference-send,
+  Items-send,
+) depth 20
 
 Site-send : IsSend Site.the_row
-Site-send = search (sendable, SourcePlace-field_send, CheckedScalar-send, CheckedScalar-field_send, CheckedBody-send, Reference-send, Items-send) depth 20
+Site-send = search (
+  sendable,
+  SourcePlace-field_send,
+  CheckedScalar-send,
+  CheckedScalar-field_send,
+  CheckedBody-send,
+  Reference-send,
+  Items-send,
+) depth 20
 
 Site-field_sync : IsSync Site.the_field.row
-Site-field_sync = search (sendable, SourcePlace-field_sync, CheckedScalar-sync, CheckedScalar-field_sync, CheckedBody-sync, Reference-sync, Items-sync) depth 20
+Site-field_sync = search (
+  sendable,
+  SourcePlace-field_sync,
+  CheckedScalar-sync,
+  CheckedScalar-field_sync,
+  CheckedBody-sync,
+  Reference-sync,
+  Items-sync,
+) depth 20
 
 Site-sync : IsSync Site.the_row
-Site-sync = search (sendable, SourcePlace-field_sync, CheckedScalar-sync, CheckedScalar-field_sync, CheckedBody-sync, Reference-sync, Items-sync) depth 20
+Site-sync = search (
+  sendable,
+  SourcePlace-field_sync,
+  CheckedScalar-sync,
+  CheckedScalar-field_sync,
+  CheckedBody-sync,
+  Reference-sync,
+  Items-sync,
+) depth 20
 
 LoopFacts-field_send : IsSend LoopFacts.the_field.row
-LoopFacts-field_send = search (sendable, ArrayFacts-send, Site-field_send, LoopTurn-field_send, Layout-send, HomeRule-field_send, Items-send) depth 20
+LoopFacts-field_send = search (
+  sendable,
+  ArrayFacts-send,
+  Site-field_send,
+  LoopTurn-field_send,
+  Layout-send,
+  HomeRule-field_send,
+  Items-send,
+) depth 20
 
 LoopFacts-send : IsSend LoopFacts.the_row
-LoopFacts-send = search (sendable, ArrayFacts-send, Site-field_send, LoopTurn-field_send, Layout-send, HomeRule-field_send, Items-send) depth 20
+LoopFacts-send = search (sendable, ArrayFacts-send, Site-field_send, LoopTurn-field_send, Layout-send, HomeRule-field_send, Items-send)
+    depth 20
 
 CheckedStatement-field_sync : IsSync CheckedStatement.the_field.row
 CheckedStatement-field_sync = search (sendable, SourcePlace-field_sync, StepForm-field_sync, CheckedScalar-field_sync) depth 20
@@ -143,10 +185,28 @@ CheckedStatement-sync : IsSync CheckedStatement.the_row
 CheckedStatement-sync = search (sendable, SourcePlace-field_sync, StepForm-field_sync, CheckedScalar-field_sync) depth 20
 
 Checked-field_sync : IsSync Checked.the_field.row
-Checked-field_sync = search (sendable, ArrayFacts-sync, LayoutName-sync, Numbers-sync, OutputName-sync, Site-sync, CheckedStatement-sync, Items-sync) depth 20
+Checked-field_sync = search (
+  sendable,
+  ArrayFacts-sync,
+  LayoutName-sync,
+  Numbers-sync,
+  OutputName-sync,
+  Site-sync,
+  CheckedStatement-sync,
+  Items-sync,
+) depth 20
 
 Checked-sync : IsSync Checked.the_row
-Checked-sync = search (sendable, ArrayFacts-sync, LayoutName-sync, Numbers-sync, OutputName-sync, Site-sync, CheckedStatement-sync, Items-sync) depth 20
+Checked-sync = search (
+  sendable,
+  ArrayFacts-sync,
+  LayoutName-sync,
+  Numbers-sync,
+  OutputName-sync,
+  Site-sync,
+  CheckedStatement-sync,
+  Items-sync,
+) depth 20
 
 Session-field_sync : IsSync Session.the_field.row
 Session-field_sync = search (sendable, Checked-field_sync, Step-sync, HomeRule-field_sync, Items-sync) depth 20
@@ -155,7 +215,8 @@ Session-sync : IsSync Session.the_row
 Session-sync = search (sendable, Checked-field_sync, Step-sync, HomeRule-field_sync, Items-sync) depth 20
 
 Inspection-field_send : IsSend Inspection.the_field.row
-Inspection-field_send = search (sendable, LoopFacts-field_send, Numbers-send, Asked-field_send, Spot-send, Stage-field_send, Items-send) depth 20
+Inspection-field_send = search (sendable, LoopFacts-field_send, Numbers-send, Asked-field_send, Spot-send, Stage-field_send, Items-send)
+    depth 20
 
 Inspection-send : IsSend Inspection.the_row
 Inspection-send = search (sendable, LoopFacts-field_send, Numbers-send, Asked-field_send, Spot-send, Stage-field_send, Items-send) depth 20
@@ -173,7 +234,18 @@ At-send : IsSend At.the_row
 At-send = search (sendable, Activity-field_send, Numbers-send, Items-send) depth 20
 
 Inside-send : (l : NamedLft) → IsSend (Inside.the_row l)
-Inside-send l = search (sendable, crosses, Session-sync, At-field_send, Holdings-field_send, Bytes-send, Numbers-send, NodeEnd-field_send, Letter-send, Wanted-send) depth 20
+Inside-send l = search (
+  sendable,
+  crosses,
+  Session-sync,
+  At-field_send,
+  Holdings-field_send,
+  Bytes-send,
+  Numbers-send,
+  NodeEnd-field_send,
+  Letter-send,
+  Wanted-send,
+) depth 20
 
 pub Node-send : (l : NamedLft) → IsSend (Node.the_row l)
 Node-send l = search (sendable, Inside-send) depth 20

@@ -7,29 +7,36 @@ use Rattle.bsp_mail.specs.declared.queues.Queues.{Queues}
 use Rattle.bsp_mail.specs.declared.seat.MailSeat.{MailSeat}
 use Rattle.bsp_mail.specs.Mails.{ArePrefixes, IsFresh, IsPair, sent_on}
 use Rattle.bsp_threads.specs.Alls.{AreAtEnd, AreEmptyFrom, AreOfPlan}
+use Rattle.bsp_threads.specs.Due.{HasLetters, due_at_end, due_within}
 use Rattle.chaos_entering.specs.Standing.{node_holds}
 use Rattle.chaos_entering.specs.State.{NodeState}
 use Rattle.chaos_holdings.specs.declared.session.Session.{Session}
-use Rattle.chaos_run.specs.DueLaws.{rows_have_due_lists}
-use Rattle.chaos_run.specs.Phases.{due_list}
-use Rattle.chaos_run.specs.RowLaws.{rows_fall}
-use Rattle.chaos_run.specs.Rows.{node_row}
+use Rattle.plan_run.specs.DueLaws.{rows_have_due_lists}
+use Rattle.plan_run.specs.Phases.{due_list}
+use Rattle.plan_run.specs.RowLaws.{rows_fall}
+use Rattle.plan_run.specs.Rows.{node_row}
 use Rattle.chaos_engine.specs.Runs.{IsAdmitted, plan_of}
 use Rattle.chaos_engine.specs.Threads.{AreWithinDue, HasDueLists}
+
+-- up to its end the plan has the letters that are due
+has_letters : (s : Session) (store : List (List ℤ))
+    → HasLetters (node_row (plan_of s store)) s.nodes (due_list s.checked s.nodes s.rule store)
+has_letters s store end p q less is = rows_have_due_lists (plan_of s store) p q end less is
 
 -- at the plan's end all that is due was sent and taken
 pub due_lists : (s : Session) (store : List (List ℤ)) (views : List (View NodeState)) (mails : List MailSeat)
     → AreAtEnd (node_row (plan_of s store)) (node_holds (plan_of s store)) s.nodes views mails → HasDueLists s store mails
-due_lists s store views mails at p q lp lq apart =
-    let due = rows_have_due_lists (plan_of s store) p q at.phase lq at.end in
-    (at.sent p q lp lq apart ∙ due, at.taken p q lp lq apart ∙ due)
+due_lists s store views mails at =
+    due_at_end (node_row (plan_of s store)) (node_holds (plan_of s store)) s.nodes (due_list s.checked s.nodes s.rule store) views mails
+    (has_letters s store) at
 
 -- what is sent of the plan is due
-pub within_due : (s : Session) (store : List (List ℤ)) (mails : List MailSeat) → AreOfPlan (node_row (plan_of s store)) s.nodes mails → AreWithinDue s store mails
-within_due s store mails of_plan p q lp lq apart =
+pub within_due : (s : Session) (store : List (List ℤ)) (mails : List MailSeat)
+    → AreOfPlan (node_row (plan_of s store)) s.nodes mails → AreWithinDue s store mails
+within_due s store mails of_plan =
     let end = has_end (node_row (plan_of s store)) (rows_fall (plan_of s store)) in
-    let sent = of_plan end.0 p q end.1 lp lq apart in
-    (sent.0, sym (rows_have_due_lists (plan_of s store) p q end.0 lq end.1) ∙ sent.1)
+    due_within (node_row (plan_of s store)) s.nodes end.0 (due_list s.checked s.nodes s.rule store) mails (has_letters s store) end.1
+    of_plan
 
 -- a fact beside an answer
 pub on_ok : {T E : Type 0} (r : Result T E) (P : Type 0) → P → OnOk r P

@@ -3,12 +3,11 @@ use Rattle.std.specs.Prelude.{◌≡◌, refl, ℕ, zero, suc, ◌+◌, ◌<◌,
 use Rattle.std.specs.List.{range_with_len}
 use Rattle.std.proofs.lemmas.List.Sums.{sum_by-cons}
 use Rattle.std.proofs.Common.{ap, sym, subst, ◌∙◌, arith}
-use Rattle.chaos_dist.specs.Counting.{below}
-use Rattle.chaos_run.specs.Rows.{RunPlan, run_in, scene_in}
+use Rattle.chaos_dist.specs.Counting.{below, map-below-one}
+use Rattle.plan_run.specs.Rows.{RunPlan, run_in, scene_in}
 use Rattle.fd_program.specs.Reports.{completed_of, count_at, counts_of, total_count}
 use Rattle.fd_program.specs.declared.count.SiteCount.{SiteCount}
 use Rattle.std.proofs.lemmas.List.{length-map, length_push}
-use Rattle.chaos_engine.proofs.Blocked.{map-below-one}
 use Rattle.bsp_core.specs.Turns.{AreDone}
 use Rattle.bsp_core.specs.Views.{View}
 use Rattle.chaos_entering.specs.State.{NodeState}
@@ -29,22 +28,44 @@ get_within (y ∷ ys) (suc k) x e = more (get_within ys k x e)
 -- ---- one FORALL
 
 abbrev more_of : SiteCount → ℕ → ℕ → SiteCount
-more_of c gathered scattered = record { executed = c.executed; inspected = c.inspected; gathered = c.gathered + gathered; scattered = c.scattered + scattered }
+more_of c gathered scattered = record {
+  executed = c.executed;
+  inspected = c.inspected;
+  gathered = c.gathered + gathered;
+  scattered = c.scattered + scattered;
+}
 
-fold_more : (c : SiteCount) (counts : List SiteCount) → fold more_count c counts ≡ more_of c (sum_by (λ (x : SiteCount). x.gathered) counts) (sum_by (λ (x : SiteCount). x.scattered) counts)
+fold_more : (c : SiteCount) (counts : List SiteCount)
+    → fold more_count c counts ≡ more_of c (sum_by (λ (x : SiteCount). x.gathered) counts) (sum_by (λ (x : SiteCount). x.scattered) counts)
 fold_more c [] =
-    ap (λ n. let x : SiteCount = record { executed = c.executed; inspected = c.inspected; gathered = n; scattered = c.scattered } in x) (let e : c.gathered ≡ c.gathered + 0 = omega arith in e)
-    ∙ ap (λ n. let x : SiteCount = record { executed = c.executed; inspected = c.inspected; gathered = c.gathered + 0; scattered = n } in x) (let e : c.scattered ≡ c.scattered + 0 = omega arith in e)
+    ap (λ n. let x : SiteCount = record { executed = c.executed; inspected = c.inspected; gathered = n; scattered = c.scattered } in x)
+    (let e : c.gathered ≡ c.gathered + 0 = omega arith in e)
+    ∙ ap (λ n. let x : SiteCount = record { executed = c.executed; inspected = c.inspected; gathered = c.gathered + 0; scattered = n } in
+    x) (let e : c.scattered ≡ c.scattered + 0 = omega arith in e)
 fold_more c (one ∷ counts) =
     let g = sum_by (λ (x : SiteCount). x.gathered) counts in
     let h = sum_by (λ (x : SiteCount). x.scattered) counts in
     let gs : c.gathered + one.gathered + g ≡ c.gathered + sum_by (λ (x : SiteCount). x.gathered) (one ∷ counts) =
-    (let e : c.gathered + one.gathered + g ≡ c.gathered + (one.gathered + g) = omega arith in e) ∙ ap (λ n. c.gathered + n) (sym (sum_by-cons (λ (x : SiteCount). x.gathered) one counts)) in
+    (let e : c.gathered + one.gathered + g ≡ c.gathered + (one.gathered + g) = omega arith in e)
+    ∙ ap (λ n. c.gathered + n) (sym (sum_by-cons (λ (x : SiteCount). x.gathered) one counts)) in
     let hs : c.scattered + one.scattered + h ≡ c.scattered + sum_by (λ (x : SiteCount). x.scattered) (one ∷ counts) =
-    (let e : c.scattered + one.scattered + h ≡ c.scattered + (one.scattered + h) = omega arith in e) ∙ ap (λ n. c.scattered + n) (sym (sum_by-cons (λ (x : SiteCount). x.scattered) one counts)) in
+    (let e : c.scattered + one.scattered + h ≡ c.scattered + (one.scattered + h) = omega arith in e)
+    ∙ ap (λ n. c.scattered + n) (sym (sum_by-cons (λ (x : SiteCount). x.scattered) one counts)) in
     fold_more (more_count c one) counts
-    ∙ ap (λ n. let x : SiteCount = record { executed = c.executed; inspected = c.inspected; gathered = n; scattered = c.scattered + one.scattered + h } in x) gs
-    ∙ ap (λ n. let x : SiteCount = record { executed = c.executed; inspected = c.inspected; gathered = c.gathered + sum_by (λ (y : SiteCount). y.gathered) (one ∷ counts); scattered = n } in x) hs
+    ∙ ap (λ n. let x : SiteCount = record {
+      executed = c.executed;
+      inspected = c.inspected;
+      gathered = n;
+      scattered = c.scattered
+          + one.scattered + h;
+    } in x) gs
+    ∙ ap (λ n. let x : SiteCount = record {
+      executed = c.executed;
+      inspected = c.inspected;
+      gathered = c.gathered
+          + sum_by (λ (y : SiteCount). y.gathered) (one ∷ counts);
+      scattered = n;
+    } in x) hs
 
 sum_map : (f : SiteCount → ℕ) (g : ℕ → SiteCount) (ks : List ℕ) → sum_by f (map g ks) ≡ sum_by (λ k. f (g k)) ks
 sum_map f g [] = refl
@@ -55,14 +76,27 @@ among_all count zero some = absurd (omega arith)
 among_all count (suc n) some =
     let all = map count (below (suc n)) in
     fold_more (first_count all) all
-    ∙ ap (λ m. let x : SiteCount = record { executed = (count 0).executed; inspected = (count 0).inspected; gathered = m; scattered = 0 + sum_by (λ (c : SiteCount). c.scattered) all } in x)
-    ((let e : 0 + sum_by (λ (c : SiteCount). c.gathered) all ≡ sum_by (λ (c : SiteCount). c.gathered) all = omega arith in e) ∙ sum_map (λ (c : SiteCount). c.gathered) count (below (suc n)))
-    ∙ ap (λ m. let x : SiteCount = record { executed = (count 0).executed; inspected = (count 0).inspected; gathered = sum_by (λ k. (count k).gathered) (below (suc n)); scattered = m } in x)
-    ((let e : 0 + sum_by (λ (c : SiteCount). c.scattered) all ≡ sum_by (λ (c : SiteCount). c.scattered) all = omega arith in e) ∙ sum_map (λ (c : SiteCount). c.scattered) count (below (suc n)))
+    ∙ ap (λ m. let x : SiteCount = record {
+      executed = (count 0).executed;
+      inspected = (count 0).inspected;
+      gathered = m;
+      scattered = 0 + sum_by (λ (c : SiteCount). c.scattered) all;
+    } in x)
+    ((let e : 0 + sum_by (λ (c : SiteCount). c.gathered) all ≡ sum_by (λ (c : SiteCount). c.gathered) all = omega arith in e)
+    ∙ sum_map (λ (c : SiteCount). c.gathered) count (below (suc n)))
+    ∙ ap (λ m. let x : SiteCount = record {
+      executed = (count 0).executed;
+      inspected = (count 0).inspected;
+      gathered = sum_by (λ k. (count k).gathered) (below (suc n));
+      scattered = m;
+    } in x)
+    ((let e : 0 + sum_by (λ (c : SiteCount). c.scattered) all ≡ sum_by (λ (c : SiteCount). c.scattered) all = omega arith in e)
+    ∙ sum_map (λ (c : SiteCount). c.scattered) count (below (suc n)))
 
 -- ---- all of them
 
-map_same : {A : Type 0} (f g : ℕ → A) (low n : ℕ) → ((k : ℕ) → low ≤ k → k < low + n → f k ≡ g k) → map f (range_with_len low n) ≡ map g (range_with_len low n)
+map_same : {A : Type 0} (f g : ℕ → A) (low n : ℕ) → ((k : ℕ) → low ≤ k → k < low + n → f k ≡ g k) → map f (range_with_len low n)
+    ≡ map g (range_with_len low n)
 map_same f g low zero h = refl
 map_same {A} f g low (suc n) h =
     ap (λ (x : A). x ∷ map f (range_with_len (low + 1) n)) (h low (omega arith) (omega arith))
@@ -80,16 +114,19 @@ count_among f low (suc n) (suc k) h = count_among f (low + 1) n k (less h) ∙ a
     less : {k n : ℕ} → suc k < suc n → k < n
     less h = omega arith
 
-pub totals_are : (plan : RunPlan) → 0 < plan.nodes → total_counts (length plan.checked.sites) (map (node_counts plan) (below plan.nodes)) ≡ counts_of (scene_in plan) (run_in plan)
+pub totals_are : (plan : RunPlan) → 0 < plan.nodes → total_counts (length plan.checked.sites) (map (node_counts plan) (below plan.nodes))
+    ≡ counts_of (scene_in plan) (run_in plan)
 totals_are plan some =
     let s = scene_in plan in
     let past = completed_of (run_in plan) in
     let sites = length plan.checked.sites in
-    map_same (λ k. total_among (map (λ cs. count_in cs k) (map (node_counts plan) (below plan.nodes)))) (λ k. total_count s.nodes (λ node. count_at s past node k)) 0 sites
+    map_same (λ k. total_among (map (λ cs. count_in cs k) (map (node_counts plan) (below plan.nodes))))
+    (λ k. total_count s.nodes (λ node. count_at s past node k)) 0 sites
     (λ k l m.
     ap total_among (map_map (λ cs. count_in cs k) (node_counts plan) (below plan.nodes)
     ∙ map_same (λ p. count_in (node_counts plan p) k) (λ p. count_at s past p k) 0 plan.nodes
-    (λ p lp mp. count_among (count_at s past p) 0 sites k (let e : k < sites = omega (arith, m) in e) ∙ ap (count_at s past p) (let e : 0 + k ≡ k = omega arith in e)))
+    (λ p lp mp. count_among (count_at s past p) 0 sites k (let e : k < sites = omega (arith, m) in e)
+    ∙ ap (count_at s past p) (let e : 0 + k ≡ k = omega arith in e)))
     ∙ among_all (λ node. count_at s past node k) plan.nodes some)
 
 -- ---- one node after another
@@ -101,9 +138,11 @@ counts_for site nodes = map (λ (v : View NodeState). count_in v.state.end.count
 take_next : (xs : List SiteCount) (k : ℕ) (x : SiteCount) → slice_get xs k ≡ Some x → take (k + 1) xs ≡ take k xs ++ x ∷ []
 take_next [] k x e = cc
 take_next (y ∷ ys) zero x e = let same : y ≡ x = cc in ap (λ (z : SiteCount). z ∷ []) same
-take_next (y ∷ ys) (suc k) x e = ap (λ n. take n (y ∷ ys)) (let h : suc k + 1 ≡ suc (k + 1) = omega arith in h) ∙ ap (λ (l : List SiteCount). y ∷ l) (take_next ys k x e)
+take_next (y ∷ ys) (suc k) x e = ap (λ n. take n (y ∷ ys)) (let h : suc k + 1 ≡ suc (k + 1) = omega arith in h)
+    ∙ ap (λ (l : List SiteCount). y ∷ l) (take_next ys k x e)
 
-get_map : (site : ℕ) (nodes : List (View NodeState)) (k : ℕ) (v : View NodeState) → slice_get nodes k ≡ Some v → slice_get (counts_for site nodes) k ≡ Some (count_in v.state.end.counts site)
+get_map : (site : ℕ) (nodes : List (View NodeState)) (k : ℕ) (v : View NodeState) → slice_get nodes k ≡ Some v
+    → slice_get (counts_for site nodes) k ≡ Some (count_in v.state.end.counts site)
 get_map site [] k v e = cc
 get_map site (w ∷ nodes) zero v e = let same : w ≡ v = cc in ap (λ (x : View NodeState). Some (count_in x.state.end.counts site)) same
 get_map site (w ∷ nodes) (suc k) v e = get_map site nodes k v e
@@ -112,8 +151,10 @@ fold_push : (c : SiteCount) (xs : List SiteCount) (x : SiteCount) → fold more_
 fold_push c [] x = refl
 fold_push c (y ∷ ys) x = fold_push (more_count c y) ys x
 
-pub total_more : (site : ℕ) (nodes : List (View NodeState)) (k : ℕ) (v : View NodeState) (c one next : SiteCount) → slice_get nodes k ≡ Some v
-    → c ≡ fold more_count (first_count (counts_for site nodes)) (take k (counts_for site nodes)) → one ≡ count_in v.state.end.counts site → next ≡ more_count c one
+pub total_more : (site : ℕ) (nodes : List (View NodeState)) (k : ℕ) (v : View NodeState) (c one next : SiteCount)
+    → slice_get nodes k ≡ Some v
+    → c ≡ fold more_count (first_count (counts_for site nodes)) (take k (counts_for site nodes)) → one ≡ count_in v.state.end.counts site
+    → next ≡ more_count c one
     → next ≡ fold more_count (first_count (counts_for site nodes)) (take (k + 1) (counts_for site nodes))
 total_more site nodes k v c one next here before is more =
     let cs = counts_for site nodes in
@@ -138,7 +179,8 @@ pub total_whole : (site : ℕ) (nodes : List (View NodeState)) (k : ℕ) (c : Si
     → c ≡ fold more_count (first_count (counts_for site nodes)) (take k (counts_for site nodes)) → c ≡ total_among (counts_for site nodes)
 total_whole site nodes k c h e =
     e ∙ ap (fold more_count (first_count (counts_for site nodes)))
-    (take_all (counts_for site nodes) k (let n : length (counts_for site nodes) ≡ length nodes = length-map nodes (λ (v : View NodeState). count_in v.state.end.counts site) in omega (arith, n, h)))
+    (take_all (counts_for site nodes) k (let n : length (counts_for site nodes) ≡ length nodes = length-map nodes
+    (λ (v : View NodeState). count_in v.state.end.counts site) in omega (arith, n, h)))
 
 pub get_some : (xs : List (View NodeState)) (k : ℕ) → k < length xs → (v : View NodeState) × (slice_get xs k ≡ Some v)
 get_some [] k h = absurd (omega arith)
@@ -152,10 +194,12 @@ pub ends_at : (k n : ℕ) → n ≤ k → k ≤ n → k ≡ n
 ends_at k n a b = omega (arith, a, b)
 
 -- one FORALL more
-pub totals_more : (nodes all : List (View NodeState)) (k : ℕ) (counts new : List SiteCount) (one : SiteCount) → all ≡ nodes → length counts ≡ k
+pub totals_more : (nodes all : List (View NodeState)) (k : ℕ) (counts new : List SiteCount) (one : SiteCount) → all ≡ nodes
+    → length counts ≡ k
     → (AreDone (λ (s : View NodeState). s) nodes → counts ≡ total_counts k (map (λ (v : View NodeState). v.state.end.counts) nodes))
     → (AreDone (λ (s : View NodeState). s) all → one ≡ total_among (counts_for k all)) → new ≡ counts ++ one ∷ []
-    → (length new ≡ k + 1) × (AreDone (λ (s : View NodeState). s) nodes → new ≡ total_counts (k + 1) (map (λ (v : View NodeState). v.state.end.counts) nodes))
+    → (length new ≡ k + 1) × (AreDone (λ (s : View NodeState). s) nodes
+    → new ≡ total_counts (k + 1) (map (λ (v : View NodeState). v.state.end.counts) nodes))
 totals_more nodes all k counts new one same size before told more = (
   ap length more ∙ length_push counts one ∙ ap (λ n. n + 1) size,
   λ done.

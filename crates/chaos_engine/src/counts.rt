@@ -54,7 +54,8 @@ fn more(count: SiteCount, one: SiteCount) -> Result<SiteCount, Memory>
 
 /// The first count of several, without what was gathered and scattered.
 fn first(nodes: &[Node<'_>], site: usize) -> SiteCount
-    ensures { AreDone (λ (s : View NodeState). s) nodes.now → result ≡ first_count (map (λ (v : View NodeState). count_in v.state.end.counts site) nodes.now) }
+    ensures { AreDone (λ (s : View NodeState). s) nodes.now
+        → result ≡ first_count (map (λ (v : View NodeState). count_in v.state.end.counts site) nodes.now) }
 {
     match nodes.first() {
         Some(node) => without_moves(count_on(node, site)),
@@ -96,7 +97,8 @@ fn count_at(nodes: &[Node<'_>], at: usize, site: usize) -> SiteCount
 /// What a FORALL counts on all nodes together: executed and inspected are those of node 0, gathered and
 /// scattered are summed.
 fn total(nodes: &[Node<'_>], site: usize) -> Result<SiteCount, Memory>
-    ensures { IfOk result (λ c. AreDone (λ (s : View NodeState). s) nodes.now → c ≡ total_among (map (λ (v : View NodeState). count_in v.state.end.counts site) nodes.now)) }
+    ensures { IfOk result (λ c. AreDone (λ (s : View NodeState). s) nodes.now
+        → c ≡ total_among (map (λ (v : View NodeState). count_in v.state.end.counts site) nodes.now)) }
 {
     let mut count = first(nodes, site);
     for at in 0..nodes.len() {
@@ -112,7 +114,8 @@ pub(crate) fn totals(
     nodes: &NodeList<Node<'_>>,
 ) -> Result<SiteCounts, Memory>
     ensures length { IfOk result (λ counts. length counts ≡ sites) }
-    ensures totals { IfOk result (λ counts. AreDone (λ (s : View NodeState). s) nodes.now → counts ≡ total_counts sites (map (λ (v : View NodeState). v.state.end.counts) nodes.now)) }
+    ensures totals { IfOk result (λ counts. AreDone (λ (s : View NodeState). s) nodes.now
+        → counts ≡ total_counts sites (map (λ (v : View NodeState). v.state.end.counts) nodes.now)) }
 {
     let all = nodes.as_slice();
     let mut counts = Items::new(alloc);

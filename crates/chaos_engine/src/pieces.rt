@@ -108,7 +108,9 @@ pub fn parts_on(
 /// The local parts of a store on each node, with every decomposition in blocks.
 pub fn split(alloc: Global, session: &Session, store: &Store) -> Result<PieceList, Memory>
     requires { session.now.nodes ≤ 16 }
-    ensures { IfOk result (λ pieces. pieces ≡ map (parts_of session.now.checked.arrays (block_owners session.now.nodes session.now.checked.layouts) store.now) (below session.now.nodes)) }
+    ensures { IfOk result (λ pieces. pieces
+        ≡ map (parts_of session.now.checked.arrays (block_owners session.now.nodes session.now.checked.layouts) store.now)
+        (below session.now.nodes)) }
 {
     let mut pieces = Items::new(alloc);
     for node in 0..session.nodes {

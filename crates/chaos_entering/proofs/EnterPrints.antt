@@ -1,5 +1,6 @@
 -- A phase in which an array is printed, as it is entered, and the end behind the last.
-use Rattle.std.specs.Prelude.{◌≡◌, refl, ℕ, zero, suc, ◌+◌, ◌<◌, ◌≤◌, ◌^◌, ℤ, Bool, true, false, if◌then◌else◌, List, [], ◌∷◌, ◌++◌, length, map, drop, reverse, slice_get, slice_set, is_some, Option, Some, None, vec_capacity}
+use Rattle.std.specs.Prelude.{◌≡◌, refl, ℕ, zero, suc, ◌+◌, ◌<◌, ◌≤◌, ◌^◌, ℤ, Bool, true, false, if◌then◌else◌, List, [], ◌∷◌, ◌++◌, length}
+use Rattle.std.specs.Prelude.{map, drop, reverse, slice_get, slice_set, is_some, Option, Some, None, vec_capacity}
 use Rattle.std.proofs.Common.{ap, sym, ◌∙◌, subst, arith}
 use Rattle.std.proofs.lemmas.Grind.{reverse_onto}
 use Rattle.std.proofs.lemmas.List.{append_assoc, reverse-reverse}
@@ -7,20 +8,21 @@ use Rattle.fd_words.specs.Lists.{list_at}
 use Rattle.bsp_core.specs.Views.{Ascends, Face, nodes_in}
 use Rattle.chaos_letter.specs.declared.letter.Letter.{Letter}
 use Rattle.chaos_letter.specs.declared.wanted.Wanted.{Wanted}
-use Rattle.chaos_places.specs.Letters.{letter_in, number_in, wanted_in}
-use Rattle.chaos_places.specs.LetterLaws.{free_is_counted, is_for_all, naming_at, print_is_sent, rows_are_made, sends_in, takes_in}
-use Rattle.chaos_places.specs.PhaseBegins.{outputs_follow, phases_are_counted, phases_follow}
-use Rattle.chaos_places.specs.Places.{left_in, output_phase, outputs_left, present_phase}
-use Rattle.chaos_places.specs.declared.stages.Naming.{Naming}
+use Rattle.plan_walk.specs.Letters.{letter_in, number_in, wanted_in}
+use Rattle.plan_walk.specs.LetterLaws.{free_is_counted, is_for_all, naming_at, print_is_sent, rows_are_made, sends_in, takes_in}
+use Rattle.plan_walk.specs.PhaseBegins.{outputs_follow, phases_are_counted, phases_follow}
+use Rattle.plan_walk.specs.Places.{left_in, output_phase, outputs_left, present_phase}
+use Rattle.plan_walk.specs.declared.stages.Naming.{Naming}
 use Rattle.chaos_print.proofs.InPlan.{plans_can_print}
 use Rattle.chaos_print.proofs.OwnRows.{rows_are_held}
 use Rattle.chaos_print.specs.Printing.{rows_held}
-use Rattle.chaos_run.specs.Held.{Stands}
-use Rattle.chaos_run.specs.Phases.{Phase, is_free, is_sent, print_rows}
-use Rattle.chaos_run.specs.Picks.{picked, picked_ascends}
-use Rattle.chaos_run.specs.RowLaws.{not_sent}
-use Rattle.chaos_run.specs.Rows.{IsRunPlan, RunPlan, face_left, run_in, scene_in}
-use Rattle.chaos_run.specs.declared.stage.Stage.TheVariants as stage
+use Rattle.plan_run.specs.CompletedLaws.{completed_first}
+use Rattle.plan_run.specs.Held.{Stands}
+use Rattle.plan_run.specs.Phases.{Phase, is_free, is_sent, print_rows}
+use Rattle.plan_run.specs.Picks.{picked, picked_ascends}
+use Rattle.plan_run.specs.RowLaws.{not_sent}
+use Rattle.plan_run.specs.Rows.{IsRunPlan, RunPlan, face_left, run_in, scene_in}
+use Rattle.plan_run.specs.declared.stage.Stage.TheVariants as stage
 use Rattle.fd_program.specs.Layouts.{Scene, owners_at, store_at}
 use Rattle.fd_program.specs.Reports.{completed_of, executed_of}
 use Rattle.fd_program.specs.RunLaws.{IsHistory}
@@ -74,14 +76,17 @@ at_most a b h g = omega (arith, h, g)
 no_bool : {A : Type 0} → false ≡ true → A
 no_bool e = absurd (let h : ⊥ = cc in h)
 
-pub rows_stand : (n : Naming) (me nodes : ℕ) (activity : Activity) (rows : List ℤ) (left : ℕ) (e : Entered) → IsRows n me nodes activity rows left e → left < 2 ^ 31
+pub rows_stand : (n : Naming) (me nodes : ℕ) (activity : Activity) (rows : List ℤ) (left : ℕ) (e : Entered)
+    → IsRows n me nodes activity rows left e → left < 2 ^ 31
     → is_for_all n.stage ≡ false → IsSoundActivity activity → CanStand me nodes e
 rows_stand n me nodes activity rows left e h less kind sound = record {
   left = subst (λ k. k < 2 ^ 31) (sym h.left_is) less;
   out = subst (λ (l : List (ℕ × Letter)). Ascends me nodes 0 (nodes_in l)) (sym h.posted.out)
-      (picked_ascends (λ q. letter_in n (list_at (rows ∷ []) q)) (λ q. is_sent n.stage me q) me nodes 0 nodes (all_below nodes) (not_sent n.stage me));
+      (picked_ascends (λ q. letter_in n (list_at (rows ∷ []) q)) (λ q. is_sent n.stage me q) me nodes 0 nodes (all_below nodes)
+      (not_sent n.stage me));
   due = subst (λ (l : List (ℕ × Wanted)). Ascends me nodes 0 (nodes_in l)) (sym h.posted.due)
-      (picked_ascends (λ q. wanted_in n (number_in [] q)) (λ q. is_sent n.stage q me) me nodes 0 nodes (all_below nodes) (not_sent n.stage me));
+      (picked_ascends (λ q. wanted_in n (number_in [] q)) (λ q. is_sent n.stage q me) me nodes 0 nodes (all_below nodes)
+      (not_sent n.stage me));
   room = with_none e.got.items (length e.due.items) (vec_capacity e.got) h.posted.got h.posted.room;
   number = λ b. no_bool (sym h.begins ∙ b);
   sound = subst IsSoundActivity (sym (ap (λ (a : At). a.activity) h.at)) sound;
@@ -96,7 +101,8 @@ face_with me nodes {a} {b} {x} {y} {v} {w} {g} {z} p q r t =
     ap (λ o. face me nodes a o v g) p ∙ ap (λ d. face me nodes a y d g) q ∙ ap (λ k. face me nodes k y w g) r ∙ ap (face me nodes b y w) t
 
 -- it is the face of the phase
-pub rows_face : (s : Scene) (f : Phase) (later : List Phase) (array me left : ℕ) (activity : Activity) (n : Naming) (rows : List ℤ) (e : Entered)
+pub rows_face : (s : Scene) (f : Phase) (later : List Phase) (array me left : ℕ) (activity : Activity) (n : Naming) (rows : List ℤ)
+    (e : Entered)
     → f.step ≡ Print array → is_for_all f.stage ≡ false → is_free f.stage ≡ true → n ≡ naming_at s f → left ≡ f.left
     → rows ≡ print_rows s.checked (owners_at s f.past) (store_at s f.past) array me → IsRows n me s.nodes activity rows left e
     → face_of me s.nodes e ≡ face_left s (f ∷ later) me
@@ -114,11 +120,14 @@ rows_face s f later array me left activity n rows e step kind free named counted
 
 -- the rows that a node finds are those that it sends
 pub rows_are : (plan : RunPlan) (past rest : List Step) (p array : ℕ) (st : NodeState) (elements parts : List (List ℤ)) → IsRunPlan plan
-    → reverse past ++ rest ≡ trace_of plan.checked → IsHistory (scene_in plan) past → Stands (scene_in plan) past p (held_of st) → elements ≡ st.holdings.elements → parts ≡ st.holdings.parts
-    → rows_held plan.checked.arrays elements parts array ≡ print_rows plan.checked (owners_at (scene_in plan) past) (store_at (scene_in plan) past) array p
+    → reverse past ++ rest ≡ trace_of plan.checked → IsHistory (scene_in plan) past → Stands (scene_in plan) past p (held_of st)
+    → elements ≡ st.holdings.elements → parts ≡ st.holdings.parts
+    → rows_held plan.checked.arrays elements parts array ≡ print_rows plan.checked (owners_at (scene_in plan) past)
+    (store_at (scene_in plan) past) array p
 rows_are plan past rest p array st elements parts known trace history stands same equal =
     ap (λ l. rows_held plan.checked.arrays l parts array) same ∙ ap (λ l. rows_held plan.checked.arrays st.holdings.elements l array) equal
-    ∙ rows_are_held (scene_in plan) past p array (held_of st) known.checked (plans_can_print plan past rest known.checked known.store trace history).owned stands
+    ∙ rows_are_held (scene_in plan) past p array (held_of st) known.checked (plans_can_print plan past rest known.checked known.store
+    trace history).owned stands
 
 -- the place of a PRINT
 place_of : (plan : RunPlan) (phases : List Phase) (p array : ℕ) (st : NodeState) (past rest : List Step)
@@ -130,21 +139,26 @@ place_of plan phases p array st past rest same h = record {
 }
 
 pub print_is_right : (plan : RunPlan) (past rest : List Step) (array p left : ℕ) (st : NodeState) (n : Naming) (rows : List ℤ) (e : Entered)
-    → n ≡ record { stage = stage.Print; execution = length past; site = array; group = 2 } → IsComing plan past (Print array) rest stage.Print [] p left st
-    → rows ≡ print_rows plan.checked (owners_at (scene_in plan) past) (store_at (scene_in plan) past) array p → IsRows n p plan.nodes Printing rows left e
+    → n ≡ record { stage = stage.Print; execution = length past; site = array; group = 2 }
+    → IsComing plan past (Print array) rest stage.Print [] p left st
+    → rows ≡ print_rows plan.checked (owners_at (scene_in plan) past) (store_at (scene_in plan) past) array p
+    → IsRows n p plan.nodes Printing rows left e
     → IsRight plan (left_in plan past (Print array) rest (stage.Print ∷ [])) p e st
 print_is_right plan past rest array p left st n rows e named coming own h =
     let s = scene_in plan in
     let at_site : array ≡ (entered_state st e).at.site = sym (ap (λ (a : At). a.site) h.at ∙ ap (λ (m : Naming). m.site) named) in
     let knows = subst (λ v. Knows s (run_in plan) past (Print array) stage.Print p v) (holds_same st e h.begins) coming.knows in
     record {
-      face = rows_face s (present_phase plan past (Print array) rest stage.Print []) (left_in plan past (Print array) rest []) array p left Printing n rows e
+      face = rows_face s (present_phase plan past (Print array) rest stage.Print []) (left_in plan past (Print array) rest []) array p
+          left Printing n rows e
           refl refl refl named (coming.left_is ∙ sym ((phases_are_counted plan past).stages (Print array) rest stage.Print [])) own h
           ∙ ap (λ l. face_left s l p) (sym (phases_follow plan past (Print array) rest stage.Print [] refl));
       holds = record {
         session = coming.session;
-        place = subst (λ a. IsPlace plan (left_in plan past (Print array) rest (stage.Print ∷ [])) p (entered_state st e) a) (sym (ap (λ (a : At). a.activity) h.at))
-            (place_of plan (left_in plan past (Print array) rest (stage.Print ∷ [])) p array (entered_state st e) past rest at_site (record {
+        place = subst (λ a. IsPlace plan (left_in plan past (Print array) rest (stage.Print ∷ [])) p (entered_state st e) a)
+            (sym (ap (λ (a : At). a.activity) h.at))
+            (place_of plan (left_in plan past (Print array) rest (stage.Print ∷ [])) p array (entered_state st e) past rest at_site
+            (record {
               places = coming.places;
               phases_are = refl;
               execution = ap (λ (a : At). a.execution) h.at ∙ ap (λ (m : Naming). m.execution) named;
@@ -159,8 +173,10 @@ print_is_right plan past rest array p left st n rows e named coming own h =
 
 pub output_is_right : (plan : RunPlan) (name : OutputName) (j p left : ℕ) (st : NodeState) (n : Naming) (rows : List ℤ) (e : Entered)
     → drop j plan.checked.outputs ≡ name ∷ drop (j + 1) plan.checked.outputs
-    → n ≡ record { stage = stage.Output j; execution = length (trace_of plan.checked) + j; site = name.array; group = 2 } → IsBehindSteps plan j p left st
-    → rows ≡ print_rows plan.checked (owners_at (scene_in plan) (completed_of (run_in plan))) (store_at (scene_in plan) (completed_of (run_in plan))) name.array p
+    → n ≡ record { stage = stage.Output j; execution = length (trace_of plan.checked) + j; site = name.array; group = 2 }
+    → IsBehindSteps plan j p left st
+    → rows ≡ print_rows plan.checked (owners_at (scene_in plan) (completed_of (run_in plan)))
+    (store_at (scene_in plan) (completed_of (run_in plan))) name.array p
     → IsRows n p plan.nodes (Output j) rows left e
     → IsRight plan (outputs_left plan (completed_of (run_in plan)) j (drop j plan.checked.outputs)) p e st
 output_is_right plan name j p left st n rows e there named behind own h =
@@ -205,7 +221,8 @@ drop_all : {A : Type 0} (xs : List A) → drop (length xs) xs ≡ []
 drop_all [] = refl
 drop_all (x ∷ xs) = drop_all xs
 
-pub end_is_right : (plan : RunPlan) (j p left : ℕ) (st : NodeState) (e : Entered) → length plan.checked.outputs ≤ j → IsBehindSteps plan j p left st → IsEnd e
+pub end_is_right : (plan : RunPlan) (j p left : ℕ) (st : NodeState) (e : Entered) → length plan.checked.outputs ≤ j
+    → IsBehindSteps plan j p left st → IsEnd e
     → IsRight plan (outputs_left plan (completed_of (run_in plan)) j (drop j plan.checked.outputs)) p e st
 end_is_right plan j p left st e most behind h =
     let s = scene_in plan in
@@ -226,41 +243,10 @@ end_is_right plan j p left st e most behind h =
     } in
     subst (λ os. IsRight plan (outputs_left plan past j os) p e st) (sym none) right
 
--- ---- the completed steps
-
-executed_first : (c : Checked) (steps : List Step) (store : List (List ℤ))
-    → (rest : List Step) × (map (λ (x : Step × List (List ℤ)). x.0) (run_from c steps store).executed ++ rest ≡ steps)
-executed_first c [] store = ([], refl)
-executed_first c (step ∷ steps) store = by (refusal_of c step store) (executed_first c steps (after_step c step store))
-  where
-    by : (o : Option Refused) → (rest : List Step) × (map (λ (x : Step × List (List ℤ)). x.0) (run_from c steps (after_step c step store)).executed ++ rest ≡ steps)
-        → (rest : List Step) × (map (λ (x : Step × List (List ℤ)). x.0) (run_past step store o (run_from c steps (after_step c step store))).executed ++ rest ≡ step ∷ steps)
-    by None (rest, e) = (rest, ap (λ l. step ∷ l) e)
-    by (Some r) more = (steps, refl)
-
-one_fewer : (xs ys all : List Step) → reverse xs ++ ys ≡ all → (rest : List Step) × (reverse (drop 1 xs) ++ rest ≡ all)
-one_fewer [] ys all e = (ys, e)
-one_fewer (x ∷ xs) ys all e = (x ∷ ys, sym (append_assoc (reverse xs) (x ∷ []) ys) ∙ ap (λ l. l ++ ys) (sym (reverse_onto xs x [])) ∙ e)
-
-completed_first : (plan : RunPlan) → (rest : List Step) × (reverse (completed_of (run_in plan)) ++ rest ≡ trace_of plan.checked)
-completed_first plan = by (is_some (run_in plan).refused)
-  where
-    steps : List Step
-    steps = map (λ (x : Step × List (List ℤ)). x.0) (run_in plan).executed
-
-    first : (rest : List Step) × (steps ++ rest ≡ trace_of plan.checked)
-    first = executed_first plan.checked (trace_of plan.checked) plan.store
-
-    all : reverse (executed_of (run_in plan)) ++ first.0 ≡ trace_of plan.checked
-    all = ap (λ l. l ++ first.0) (reverse-reverse steps) ∙ first.1
-
-    by : (b : Bool) → (rest : List Step) × (reverse (drop (if b then 1 else 0) (executed_of (run_in plan))) ++ rest ≡ trace_of plan.checked)
-    by true = one_fewer (executed_of (run_in plan)) first.0 (trace_of plan.checked) all
-    by false = (first.0, all)
-
 -- ---- what the functions give
 
-pub posted_alone : (n : Naming) (me nodes : ℕ) (own : List ℤ) (lists : List (List ℤ)) (p : Posted) → lists ≡ own ∷ [] → ArePosted n me nodes lists [] p
+pub posted_alone : (n : Naming) (me nodes : ℕ) (own : List ℤ) (lists : List (List ℤ)) (p : Posted) → lists ≡ own ∷ []
+    → ArePosted n me nodes lists [] p
     → ArePosted n me nodes (own ∷ []) [] p
 posted_alone n me nodes own lists p e h = subst (λ l. ArePosted n me nodes l [] p) e h
 
@@ -275,20 +261,26 @@ rows_of n me nodes activity rows left p h = record {
 }
 
 pub is_rows : (n : Naming) (me nodes : ℕ) (activity : Activity) (rows own : List ℤ) (sizes : List ℕ) (left : ℕ) (p : Posted) (e : Entered)
-    → own ≡ rows → sizes ≡ [] → ArePosted n me nodes (own ∷ []) [] p → e ≡ phase_with n activity own sizes left p → IsRows n me nodes activity rows left e
+    → own ≡ rows → sizes ≡ [] → ArePosted n me nodes (own ∷ []) [] p → e ≡ phase_with n activity own sizes left p
+    → IsRows n me nodes activity rows left e
 is_rows n me nodes activity rows own sizes left p e same none h is =
-    subst (IsRows n me nodes activity rows left) (sym (is ∙ ap (λ (l : List ℕ). phase_with n activity own l left p) none ∙ ap (λ (l : List ℤ). phase_with n activity l [] left p) same))
+    subst (IsRows n me nodes activity rows left) (sym (is ∙ ap (λ (l : List ℕ). phase_with n activity own l left p) none
+    ∙ ap (λ (l : List ℤ). phase_with n activity l [] left p) same))
     (rows_of n me nodes activity rows left p (subst (λ (l : List ℤ). ArePosted n me nodes (l ∷ []) [] p) same h))
 
-pub print_enters : (session : Session) (plan : RunPlan) (past rest : List Step) (execution array me left : ℕ) (st : NodeState) (elements parts : List (List ℤ)) (e : Entered)
-    → IsRows (record { stage = stage.Print; execution = execution; site = array; group = 2 }) me session.nodes Printing (rows_held session.checked.arrays elements parts array) left e
+pub print_enters : (session : Session) (plan : RunPlan) (past rest : List Step) (execution array me left : ℕ) (st : NodeState)
+    (elements parts : List (List ℤ)) (e : Entered)
+    → IsRows (record { stage = stage.Print; execution = execution; site = array; group = 2 }) me session.nodes Printing
+    (rows_held session.checked.arrays elements parts array) left e
     → IsRunPlan plan → session ≡ session_in plan → execution ≡ length past → IsComing plan past (Print array) rest stage.Print [] me left st
-    → elements ≡ st.holdings.elements → parts ≡ st.holdings.parts → IsRight plan (left_in plan past (Print array) rest (stage.Print ∷ [])) me e st
+    → elements ≡ st.holdings.elements → parts ≡ st.holdings.parts → IsRight plan (left_in plan past (Print array) rest (stage.Print ∷ []))
+    me e st
 print_enters session plan past rest execution array me left st elements parts e h known same number coming equal alike =
     let n : Naming = record { stage = stage.Print; execution = execution; site = array; group = 2 } in
     print_is_right plan past rest array me left st n (rows_held plan.checked.arrays elements parts array) e
     (ap (λ k. let m : Naming = record { stage = stage.Print; execution = k; site = array; group = 2 } in m) number) coming
-    (rows_are plan past (Print array ∷ rest) me array st elements parts known coming.places.trace coming.places.history coming.knows.stands equal alike)
+    (rows_are plan past (Print array ∷ rest) me array st elements parts known coming.places.trace coming.places.history
+    coming.knows.stands equal alike)
     (subst (λ (x : Session). IsRows n me x.nodes Printing (rows_held x.checked.arrays elements parts array) left e) same h)
 
 drop_some : (xs : List OutputName) (j : ℕ) (x : OutputName) → slice_get xs j ≡ Some x → drop j xs ≡ x ∷ drop (j + 1) xs
@@ -301,9 +293,11 @@ drop_some (y ∷ ys) (suc j) x e =
     drop_on : (ys : List OutputName) (j : ℕ) → drop (j + 1) ys ≡ drop (suc j + 1) (y ∷ ys)
     drop_on ys j = let next : suc j + 1 ≡ suc (j + 1) = omega arith in sym (ap (λ k. drop k (y ∷ ys)) next)
 
-pub output_enters : (session : Session) (plan : RunPlan) (execution j me left : ℕ) (name : OutputName) (st : NodeState) (elements parts : List (List ℤ)) (e : Entered)
+pub output_enters : (session : Session) (plan : RunPlan) (execution j me left : ℕ) (name : OutputName) (st : NodeState)
+    (elements parts : List (List ℤ)) (e : Entered)
     → slice_get session.checked.outputs j ≡ Some name → execution ≡ length session.trace + j
-    → IsRows (record { stage = stage.Output j; execution = execution; site = name.array; group = 2 }) me session.nodes (Output j) (rows_held session.checked.arrays elements parts name.array) left e
+    → IsRows (record { stage = stage.Output j; execution = execution; site = name.array; group = 2 }) me session.nodes (Output j)
+    (rows_held session.checked.arrays elements parts name.array) left e
     → IsRunPlan plan → session ≡ session_in plan → IsBehindSteps plan j me left st
     → elements ≡ st.holdings.elements → parts ≡ st.holdings.parts
     → IsRight plan (outputs_left plan (completed_of (run_in plan)) j (drop j plan.checked.outputs)) me e st
@@ -312,8 +306,10 @@ output_enters session plan execution j me left name st elements parts e there nu
     let rest = completed_first plan in
     output_is_right plan name j me left st n (rows_held plan.checked.arrays elements parts name.array) e
     (drop_some plan.checked.outputs j name (ap (λ (x : Session). slice_get x.checked.outputs j) (sym same) ∙ there))
-    (ap (λ k. let m : Naming = record { stage = stage.Output j; execution = k; site = name.array; group = 2 } in m) (numbered ∙ ap (λ (x : Session). length x.trace + j) same)) behind
-    (rows_are plan (completed_of (run_in plan)) rest.0 me name.array st elements parts known rest.1 behind.knows.history behind.knows.stands equal alike)
+    (ap (λ k. let m : Naming = record { stage = stage.Output j; execution = k; site = name.array; group = 2 } in m) (numbered
+    ∙ ap (λ (x : Session). length x.trace + j) same)) behind
+    (rows_are plan (completed_of (run_in plan)) rest.0 me name.array st elements parts known rest.1 behind.knows.history
+    behind.knows.stands equal alike)
     (subst (λ (x : Session). IsRows n me x.nodes (Output j) (rows_held x.checked.arrays elements parts name.array) left e) same h)
 
 -- behind the last there is none
@@ -322,8 +318,10 @@ none_behind [] j e = omega arith
 none_behind (x ∷ xs) zero e = cc
 none_behind (x ∷ xs) (suc j) e = omega (arith, none_behind xs j e)
 
-pub end_enters : (session : Session) (plan : RunPlan) (j me left : ℕ) (st : NodeState) (e : Entered) → slice_get session.checked.outputs j ≡ None → IsEnd e
+pub end_enters : (session : Session) (plan : RunPlan) (j me left : ℕ) (st : NodeState) (e : Entered) → slice_get session.checked.outputs j
+    ≡ None → IsEnd e
     → session ≡ session_in plan → IsBehindSteps plan j me left st
     → IsRight plan (outputs_left plan (completed_of (run_in plan)) j (drop j plan.checked.outputs)) me e st
 end_enters session plan j me left st e none h same behind =
-    end_is_right plan j me left st e (none_behind plan.checked.outputs j (ap (λ (x : Session). slice_get x.checked.outputs j) (sym same) ∙ none)) behind h
+    end_is_right plan j me left st e (none_behind plan.checked.outputs j (ap (λ (x : Session). slice_get x.checked.outputs j) (sym same)
+    ∙ none)) behind h

@@ -1,25 +1,26 @@
 -- The way to the next step with phases: over those without, what a node holds stays.
-use Rattle.std.specs.Prelude.{◌≡◌, refl, ℕ, zero, suc, ◌+◌, ◌<◌, ◌≤◌, ℤ, pos, Bool, true, false, not, ◌&&◌, if◌then◌else◌, List, [], ◌∷◌, ◌++◌, length, map, drop, get_or, reverse, Option, Some, None, MatchOption}
+use Rattle.std.specs.Prelude.{◌≡◌, refl, ℕ, zero, suc, ◌+◌, ◌<◌, ◌≤◌, ℤ, pos, Bool, true, false, not, ◌&&◌, if◌then◌else◌, List, [], ◌∷◌}
+use Rattle.std.specs.Prelude.{◌++◌, length, map, drop, get_or, reverse, Option, Some, None, MatchOption}
 use Rattle.std.specs.List.{AllByRecursion, AllZip}
 use Rattle.std.specs.Option.{option_map_or}
 use Rattle.std.proofs.Common.{ap, sym, ◌∙◌, subst, arith, add-one, append-nil}
-use Rattle.std.proofs.lemmas.Grind.{reverse_onto}
 use Rattle.chaos_begin.proofs.Kept.{kept_are_latest}
 use Rattle.chaos_begin.specs.Begins.{HasLatest, IsBegun, IsBetween, latest_kept}
 use Rattle.chaos_begin.specs.declared.begun.Begun.{Begun}
 use Rattle.chaos_begin.specs.declared.between.Between.{Between}
 use Rattle.chaos_dist.specs.Counting.{below}
-use Rattle.chaos_facts.proofs.Exact.{steps_are_in}
-use Rattle.chaos_facts.specs.FactsLaws.{IsRun, IsStepIn}
-use Rattle.chaos_places.specs.Places.{StandsBefore, left_from, stages_in, whole_from}
-use Rattle.chaos_places.specs.StepEnds.{HasSteps, quiet_steps_pass, run_starts, steps_are_known}
-use Rattle.chaos_run.specs.Held.{Held, KeepsLoop, lines_of, text_on}
-use Rattle.chaos_run.specs.KeptLaws.{quiet_keeps_loops}
-use Rattle.chaos_run.specs.OwnerLaws.{is_quiet}
-use Rattle.chaos_run.specs.Phases.{site_of, stages_of}
-use Rattle.chaos_run.specs.Rows.{IsRunPlan, RunPlan, scene_in}
-use Rattle.chaos_run.specs.StandLaws.{quiet_stands, zip_weaker}
-use Rattle.chaos_run.specs.declared.kept.Kept.{Kept}
+use Rattle.fd_program.specs.ListLaws.{all_split, all_reversed}
+use Rattle.fd_program.specs.StepLaws.{steps_are_in, IsStepIn}
+use Rattle.chaos_facts.specs.FactsLaws.{IsRun}
+use Rattle.plan_walk.specs.Places.{StandsBefore, left_from, stages_in, whole_from}
+use Rattle.plan_walk.specs.StepEnds.{HasSteps, quiet_steps_pass, run_starts, steps_are_known}
+use Rattle.plan_run.specs.Held.{Held, KeepsLoop, lines_of, text_on}
+use Rattle.plan_run.specs.KeptLaws.{quiet_keeps_loops}
+use Rattle.plan_run.specs.OwnerLaws.{is_quiet}
+use Rattle.plan_run.specs.Phases.{site_of, stages_of}
+use Rattle.plan_run.specs.Rows.{IsRunPlan, RunPlan, scene_in}
+use Rattle.plan_run.specs.StandLaws.{quiet_stands, zip_weaker}
+use Rattle.plan_run.specs.declared.kept.Kept.{Kept}
 use Rattle.fd_program.specs.Layouts.{Scene, store_at}
 use Rattle.fd_program.specs.Past.{inspecting_of, inspects_step, is_same_record, latest_of, record_at}
 use Rattle.fd_program.specs.Stores.{FitsStore}
@@ -30,18 +31,6 @@ use Rattle.fd_program.specs.declared.trace.Step.{Step}
 use Rattle.fd_program.specs.declared.trace.Step.TheVariants.{Distribute, Print, Forall}
 use Rattle.chaos_entering.specs.Coming.{FindsNone, FindsStep, IsHere}
 use Rattle.chaos_entering.specs.Standing.{HasCome}
-
--- ---- lists
-
-pub all_split : {A : Type 0} (P : A → Type 0) (xs ys : List A) → AllByRecursion P (xs ++ ys) → AllByRecursion P xs × AllByRecursion P ys
-all_split P [] ys h = (tt, h)
-all_split P (x ∷ xs) ys h = let rest = all_split P xs ys h.1 in ((h.0, rest.0), rest.1)
-
-pub all_reversed : {A : Type 0} (P : A → Type 0) (xs : List A) → AllByRecursion P (reverse xs) → AllByRecursion P xs
-all_reversed P [] h = tt
-all_reversed P (x ∷ xs) h =
-    let parts = all_split P (reverse xs) (x ∷ []) (subst (AllByRecursion P) (reverse_onto xs x []) h) in
-    (parts.1.0, all_reversed P xs parts.0)
 
 -- ---- what is kept
 
@@ -67,7 +56,8 @@ latest_same c past (k ∷ ks) (x ∷ kept) (y ∷ now) e h = (
 
 pub is_run : (plan : RunPlan) (past rest : List Step) → IsRunPlan plan → StandsBefore plan past rest → IsRun (scene_in plan) past
 is_run plan past rest known h =
-    let all : AllByRecursion (IsStepIn plan.checked) (reverse past ++ rest) = subst (AllByRecursion (IsStepIn plan.checked)) (sym h.trace) (steps_are_in plan.checked known.checked) in
+    let all : AllByRecursion (IsStepIn plan.checked) (reverse past ++ rest) = subst (AllByRecursion (IsStepIn plan.checked)) (sym h.trace)
+    (steps_are_in plan.checked known.checked) in
     record {
       some_nodes = omega (arith, known.some);
       fits = subst (FitsStore plan.checked.arrays) (sym (run_starts plan).store) known.store;
@@ -75,12 +65,15 @@ is_run plan past rest known h =
       steps = all_reversed (IsStepIn plan.checked) past (all_split (IsStepIn plan.checked) (reverse past) rest all).0;
     }
 
-pub step_is_in : (plan : RunPlan) (past : List Step) (step : Step) (rest : List Step) → IsRunPlan plan → StandsBefore plan past (step ∷ rest) → IsStepIn plan.checked step
+pub step_is_in : (plan : RunPlan) (past : List Step) (step : Step) (rest : List Step) → IsRunPlan plan
+    → StandsBefore plan past (step ∷ rest) → IsStepIn plan.checked step
 step_is_in plan past step rest known h =
-    let all : AllByRecursion (IsStepIn plan.checked) (reverse past ++ (step ∷ rest)) = subst (AllByRecursion (IsStepIn plan.checked)) (sym h.trace) (steps_are_in plan.checked known.checked) in
+    let all : AllByRecursion (IsStepIn plan.checked) (reverse past ++ (step ∷ rest)) = subst (AllByRecursion (IsStepIn plan.checked))
+    (sym h.trace) (steps_are_in plan.checked known.checked) in
     (all_split (IsStepIn plan.checked) (reverse past) (step ∷ rest) all).1.0
 
-pub is_between : (plan : RunPlan) (past rest : List Step) (b : Between) (v : Held) → IsRunPlan plan → IsHere plan b v → HasCome plan past rest b.me v
+pub is_between : (plan : RunPlan) (past rest : List Step) (b : Between) (v : Held) → IsRunPlan plan → IsHere plan b v
+    → HasCome plan past rest b.me v
     → IsBetween (scene_in plan) past v b
 is_between plan past rest b v known here come = record {
   checked = sym here.checked;
@@ -103,11 +96,13 @@ inspects_none c past (Print array) e = refl
 inspects_none c past (Forall site turn) e = by (is_empty_turn turn) e
   where
     by : (b : Bool) → b ≡ true
-        → (not b && option_map_or (λ (latest, before). not (is_same_record (record_at c before site latest) (record_at c past site turn))) (latest_of past site) true) ≡ false
+        → (not b && option_map_or (λ (latest, before). not (is_same_record (record_at c before site latest) (record_at c past site turn)))
+        (latest_of past site) true) ≡ false
     by true e = refl
     by false e = cc
 
-prints_none : (plan : RunPlan) (past : List Step) (step : Step) (store : List (List ℤ)) → stages_in plan past step ≡ [] → printed plan.checked (step, store) ≡ []
+prints_none : (plan : RunPlan) (past : List Step) (step : Step) (store : List (List ℤ)) → stages_in plan past step ≡ []
+    → printed plan.checked (step, store) ≡ []
 prints_none plan past (Distribute d form) store e = refl
 prints_none plan past (Print array) store e = cc
 prints_none plan past (Forall site turn) store e = refl
@@ -133,7 +128,8 @@ goes_over plan past step rest p v known h none =
         places = passes.stands;
         stands = quiet_stands s past step p v known.checked passes.stands.history passes.quiet h.stands;
         keeps = zip_weaker (λ k. KeepsLoop s past k p v.tables) (λ k. KeepsLoop s (step ∷ past) k p v.tables)
-            (λ k kept held. quiet_keeps_loops s past step k p v.tables kept passes.quiet held) (below (length plan.checked.sites)) v.kept h.keeps;
+            (λ k kept held. quiet_keeps_loops s past step k p v.tables kept passes.quiet held) (below (length plan.checked.sites)) v.kept
+            h.keeps;
         inspected = h.inspected ∙ ap (map pos) (sym inspecting);
         text = h.text ∙ ap (text_on p) (sym lines);
         refused = h.refused;
@@ -187,12 +183,16 @@ get_drop zero xs none = refl
 get_drop (suc n) [] none = refl
 get_drop (suc n) (x ∷ xs) none = get_drop n xs none
 
-pub has_next : (plan : RunPlan) (past rest : List Step) (p : ℕ) (v : Held) (number : ℕ) (trace : List Step) (step : Step) → trace ≡ trace_of plan.checked
-    → number < length trace → step ≡ get_or trace number step → HasReached plan past rest p v number → HasNext plan past rest p v number step
-has_next plan past rest p v number trace step same less is reached = by reached.behind reached.come reached.left reached.whole (steps_are_known plan reached.before reached.behind reached.come.places)
+pub has_next : (plan : RunPlan) (past rest : List Step) (p : ℕ) (v : Held) (number : ℕ) (trace : List Step) (step : Step)
+    → trace ≡ trace_of plan.checked
+    → number < length trace → step ≡ get_or trace number step → HasReached plan past rest p v number
+    → HasNext plan past rest p v number step
+has_next plan past rest p v number trace step same less is reached = by reached.behind reached.come reached.left reached.whole
+    (steps_are_known plan reached.before reached.behind reached.come.places)
   where
     by : (behind : List Step) → HasCome plan reached.before behind p v → left_from plan past rest ≡ left_from plan reached.before behind
-        → whole_from plan past rest ≡ whole_from plan reached.before behind → HasSteps plan reached.before behind → HasNext plan past rest p v number step
+        → whole_from plan past rest ≡ whole_from plan reached.before behind → HasSteps plan reached.before behind
+        → HasNext plan past rest p v number step
     by [] come left whole steps = absurd (omega (arith, less, ap length same, steps.count, reached.number_is))
     by (next ∷ behind) come left whole steps =
         let first : step ≡ next
@@ -213,7 +213,8 @@ Tells b step o = (s : Scene) (past : List Step) (v : Held) → IsBetween s past 
     → MatchOption o (stages_of s.checked s.nodes s.rule past step ≡ []) (IsBegun s past step b.me)
 
 -- a step without phases is passed over
-pub search_goes_on : (b : Between) (trace : List Step) (from number : ℕ) (step : Step) (o : Option Begun) → number < length trace → step ≡ get_or trace number step
+pub search_goes_on : (b : Between) (trace : List Step) (from number : ℕ) (step : Step) (o : Option Begun) → number < length trace
+    → step ≡ get_or trace number step
     → o ≡ None → Tells b step o → Searches b trace from number → Searches b trace from (number + 1)
 search_goes_on b trace from number step o less is none tells searched plan past rest v known same at here come =
     let next = has_next plan past rest b.me v number trace step same less is (searched plan past rest v known same at here come) in
@@ -232,7 +233,8 @@ search_goes_on b trace from number step o less is none tells searched plan past 
     }
 
 -- a step with phases is found
-pub search_finds : (b : Between) (trace : List Step) (from number : ℕ) (step : Step) (o : Option Begun) (begun : Begun) (site : ℕ) → number < length trace → step ≡ get_or trace number step
+pub search_finds : (b : Between) (trace : List Step) (from number : ℕ) (step : Step) (o : Option Begun) (begun : Begun) (site : ℕ)
+    → number < length trace → step ≡ get_or trace number step
     → o ≡ Some begun → site ≡ site_of step → Tells b step o → Searches b trace from number
     → (plan : RunPlan) (past rest : List Step) (v : Held) → IsRunPlan plan → trace ≡ trace_of plan.checked → from ≡ length past
     → IsHere plan b v → HasCome plan past rest b.me v → FindsStep plan past rest b.me v number site begun
@@ -258,10 +260,12 @@ pub search_is_over : (b : Between) (trace : List Step) (from number : ℕ) → l
     → IsHere plan b v → HasCome plan past rest b.me v → FindsNone plan past rest b.me v
 search_is_over b trace from number most searched plan past rest v known same at here come =
     let reached = searched plan past rest v known same at here come in
-    by reached reached.behind reached.come reached.left reached.whole (steps_are_known plan reached.before reached.behind reached.come.places)
+    by reached reached.behind reached.come reached.left reached.whole
+    (steps_are_known plan reached.before reached.behind reached.come.places)
   where
     by : (reached : HasReached plan past rest b.me v number) (behind : List Step) → HasCome plan reached.before behind b.me v
         → left_from plan past rest ≡ left_from plan reached.before behind
-        → whole_from plan past rest ≡ whole_from plan reached.before behind → HasSteps plan reached.before behind → FindsNone plan past rest b.me v
+        → whole_from plan past rest ≡ whole_from plan reached.before behind → HasSteps plan reached.before behind
+        → FindsNone plan past rest b.me v
     by reached [] come left whole steps = record { before = reached.before; come = come; left = left; whole = whole }
     by reached (next ∷ behind) come left whole steps = absurd (omega (arith, most, ap length same, steps.count, reached.number_is))

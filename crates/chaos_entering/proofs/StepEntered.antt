@@ -1,5 +1,6 @@
 -- The first phase of a step, as it is entered, and the end of the steps.
-use Rattle.std.specs.Prelude.{◌≡◌, refl, ℕ, zero, suc, ◌+◌, ◌<◌, ◌≤◌, ◌^◌, ℤ, pos, Bool, true, false, ◌&&◌, ◌==◌, if◌then◌else◌, List, [], ◌∷◌, ◌++◌, length, map, reverse, slice_get, slice_set, Option, Some, None, IsSomeAnd, IfSome, MatchBool}
+use Rattle.std.specs.Prelude.{◌≡◌, refl, ℕ, zero, suc, ◌+◌, ◌<◌, ◌≤◌, ◌^◌, ℤ, pos, Bool, true, false, ◌&&◌, ◌==◌, if◌then◌else◌, List, []}
+use Rattle.std.specs.Prelude.{◌∷◌, ◌++◌, length, map, reverse, slice_get, slice_set, Option, Some, None, IsSomeAnd, IfSome, MatchBool}
 use Rattle.std.specs.List.{AllByRecursion, AllZip, range_with_len}
 use Rattle.std.specs.Option.{option_and_then, option_map}
 use Rattle.std.proofs.Common.{ap, sym, ◌∙◌, subst, arith, append-nil}
@@ -10,7 +11,7 @@ use Rattle.chaos_dist.specs.Counting.{below}
 use Rattle.chaos_dist.specs.declared.step_form.StepForm.{StepForm}
 use Rattle.chaos_dist.specs.declared.step_form.StepForm.TheVariants.{Regular, Map}
 use Rattle.chaos_execute.proofs.Ready.{steps_are_of_the_program}
-use Rattle.chaos_execute.specs.Ready.{IsStepOf}
+use Rattle.fd_program.specs.StepLaws.{IsStepOf}
 use Rattle.chaos_executing.specs.InRun.{CanExecute}
 use Rattle.chaos_hash.specs.Stamps.{Stamps}
 use Rattle.chaos_table.specs.declared.pages.Pages.{Pages}
@@ -19,24 +20,25 @@ use Rattle.chaos_inspect.specs.declared.inspection.Inspection.{Inspection}
 use Rattle.chaos_moving.specs.InRun.{owners_after}
 use Rattle.chaos_moving.specs.IsMoving.{IsMoving}
 use Rattle.chaos_moving.specs.declared.moving.Moving.{Moving}
-use Rattle.chaos_phases.specs.LoopLetters.{asks_places}
-use Rattle.chaos_phases.specs.declared.loop_phase.Asking.TheVariants.{Indexes}
-use Rattle.chaos_phases.specs.declared.loop_phase.LoopPhase.{LoopPhase}
-use Rattle.chaos_phases.specs.declared.loop_phase.LoopPhase.TheVariants as phase
-use Rattle.chaos_places.specs.PhaseBegins.{only_inspections_stop, phases_are_counted, steps_are_over}
-use Rattle.chaos_places.specs.Places.{left_from, left_in, outputs_left, stages_in, whole_in}
-use Rattle.chaos_places.specs.StepEnds.{run_starts, stages_are_known}
-use Rattle.chaos_reach.specs.Accepted.{AreOwners}
-use Rattle.chaos_run.specs.Held.{Held, IsInspected, KeepsAtEnd, KeepsLoop, inspected_at, is_executing, is_inspecting, is_stopped, lines_of, refused_at, text_at, text_on}
-use Rattle.chaos_run.specs.InspectionLaws.{inspection_begins}
-use Rattle.chaos_run.specs.KeptLaws.{reused_is_kept}
-use Rattle.chaos_run.specs.Phases.{is_free, loop_stages, moving_stages, site_of}
-use Rattle.chaos_run.specs.Rows.{IsRunPlan, RunPlan, run_in, scene_in}
-use Rattle.chaos_run.specs.StandLaws.{zip_weaker}
-use Rattle.chaos_run.specs.WithinLaws.{is_output, step_begins}
-use Rattle.chaos_run.specs.declared.kept.Kept.{Kept}
-use Rattle.chaos_run.specs.declared.stage.Stage.{Stage}
-use Rattle.chaos_run.specs.declared.stage.Stage.TheVariants as stage
+use Rattle.plan_loop.specs.LoopLetters.{asks_places}
+use Rattle.plan_loop.specs.declared.loop_phase.Asking.TheVariants.{Indexes}
+use Rattle.plan_loop.specs.declared.loop_phase.LoopPhase.{LoopPhase}
+use Rattle.plan_loop.specs.declared.loop_phase.LoopPhase.TheVariants as phase
+use Rattle.plan_walk.specs.PhaseBegins.{only_inspections_stop, phases_are_counted, steps_are_over}
+use Rattle.plan_walk.specs.Places.{left_from, left_in, outputs_left, stages_in, whole_in}
+use Rattle.plan_walk.specs.StepEnds.{run_starts, stages_are_known}
+use Rattle.inspect_uses.specs.Accepted.{AreOwners}
+use Rattle.plan_run.specs.Held.{Held, IsInspected, KeepsAtEnd, KeepsLoop, inspected_at, is_executing, is_inspecting, is_stopped, lines_of}
+use Rattle.plan_run.specs.Held.{refused_at, text_at, text_on}
+use Rattle.plan_run.specs.InspectionLaws.{inspection_begins}
+use Rattle.plan_run.specs.KeptLaws.{reused_is_kept}
+use Rattle.plan_run.specs.Phases.{is_free, loop_stages, moving_stages, site_of}
+use Rattle.plan_run.specs.Rows.{IsRunPlan, RunPlan, run_in, scene_in}
+use Rattle.plan_run.specs.StandLaws.{zip_weaker}
+use Rattle.plan_run.specs.WithinLaws.{is_output, not_refused, plain_text, present_inspected, step_begins}
+use Rattle.plan_run.specs.declared.kept.Kept.{Kept}
+use Rattle.plan_run.specs.declared.stage.Stage.{Stage}
+use Rattle.plan_run.specs.declared.stage.Stage.TheVariants as stage
 use Rattle.chaos_sched.specs.declared.prepared.Prepared.{Prepared}
 use Rattle.fd_program.specs.Layouts.{Scene, loop_at, owners_at, store_at}
 use Rattle.fd_program.specs.Loops.{offence_of}
@@ -53,9 +55,10 @@ use Rattle.fd_program.specs.declared.trace.LoopTurn.{LoopTurn}
 use Rattle.fd_program.specs.declared.trace.Step.{Step}
 use Rattle.fd_program.specs.declared.trace.Step.TheVariants.{Distribute, Print, Forall}
 use Rattle.fd_words.specs.declared.place.Offence.{Offence}
-use Rattle.chaos_entering.proofs.Finding.{all_reversed, all_split}
+use Rattle.fd_program.specs.ListLaws.{all_reversed, all_split}
 use Rattle.chaos_entering.specs.Behind.{inspection_from_first, stages_behind}
-use Rattle.chaos_entering.specs.Coming.{CanStand, FindsNone, FindsStep, IsBehindSteps, IsComing, IsHere, IsNext, IsRight, KnowsLengths, entered_state, noted}
+use Rattle.chaos_entering.specs.Coming.{CanStand, FindsNone, FindsStep, IsBehindSteps, IsComing, IsHere, IsNext, IsRight, KnowsLengths}
+use Rattle.chaos_entering.specs.Coming.{entered_state, noted}
 use Rattle.chaos_holdings.specs.Keeping.{no_kept, prepared_by, prepared_in}
 use Rattle.chaos_entering.specs.Standing.{GoesOnInspecting, GoesOnMoving, HasCome, HoldsAt, Knows, KnowsBehind, session_in}
 use Rattle.chaos_entering.specs.State.{NodeState, held_of}
@@ -73,42 +76,13 @@ nought_least n = omega arith
 
 -- ---- the first stage of a step that inspects nothing
 
-not_refused : (run : Run) (a : Stage) → is_output a ≡ false → refused_at run a ≡ None
-not_refused run (stage.MapPairs array) e = refl
-not_refused run stage.PageCounts e = refl
-not_refused run stage.MovingAsk e = refl
-not_refused run stage.MovingAnswer e = refl
-not_refused run stage.Remap e = refl
-not_refused run stage.Print e = refl
-not_refused run (stage.Output j) e = cc
-not_refused run (stage.InLoop l) e = refl
-
-plain_text : (s : Scene) (run : Run) (past : List Step) (a : Stage) → is_output a ≡ false → text_at s run past a ≡ lines_of s past
-plain_text s run past (stage.MapPairs array) e = refl
-plain_text s run past stage.PageCounts e = refl
-plain_text s run past stage.MovingAsk e = refl
-plain_text s run past stage.MovingAnswer e = refl
-plain_text s run past stage.Remap e = refl
-plain_text s run past stage.Print e = refl
-plain_text s run past (stage.Output j) e = cc
-plain_text s run past (stage.InLoop l) e = refl
-
-present_inspected : (s : Scene) (run : Run) (past : List Step) (step : Step) (a : Stage) → is_output a ≡ false
-    → inspected_at s run past step a ≡ map pos (inspecting_of s.checked (step ∷ past))
-present_inspected s run past step (stage.MapPairs array) e = refl
-present_inspected s run past step stage.PageCounts e = refl
-present_inspected s run past step stage.MovingAsk e = refl
-present_inspected s run past step stage.MovingAnswer e = refl
-present_inspected s run past step stage.Remap e = refl
-present_inspected s run past step stage.Print e = refl
-present_inspected s run past step (stage.Output j) e = cc
-present_inspected s run past step (stage.InLoop l) e = refl
-
-none_noted : (c : Checked) (past : List Step) (step : Step) → inspects_step c past step ≡ false → inspecting_of c past ≡ inspecting_of c (step ∷ past)
+none_noted : (c : Checked) (past : List Step) (step : Step) → inspects_step c past step ≡ false
+    → inspecting_of c past ≡ inspecting_of c (step ∷ past)
 none_noted c past step e =
     sym (ap (λ b. inspecting_of c past ++ (if b then length past ∷ [] else [])) e ∙ append-nil (inspecting_of c past))
 
-inspects_no_loop : (c : Checked) (past : List Step) (step : Step) (k : ℕ) → inspects_step c past step ≡ false → is_inspecting c past step k ≡ false
+inspects_no_loop : (c : Checked) (past : List Step) (step : Step) (k : ℕ) → inspects_step c past step ≡ false
+    → is_inspecting c past step k ≡ false
 inspects_no_loop c past (Distribute d form) k e = refl
 inspects_no_loop c past (Print array) k e = refl
 inspects_no_loop c past (Forall site turn) k e = ap (λ b. (site == k) && b) e ∙ neither (site == k)
@@ -117,7 +91,8 @@ inspects_no_loop c past (Forall site turn) k e = ap (λ b. (site == k) && b) e �
     neither true = refl
     neither false = refl
 
-pub knows_first : (plan : RunPlan) (past rest : List Step) (step : Step) (first : Stage) (p : ℕ) (v : Held) → HasCome plan past (step ∷ rest) p v
+pub knows_first : (plan : RunPlan) (past rest : List Step) (step : Step) (first : Stage) (p : ℕ) (v : Held)
+    → HasCome plan past (step ∷ rest) p v
     → is_output first ≡ false → inspects_step plan.checked past step ≡ false → Knows (scene_in plan) (run_in plan) past step first p v
 knows_first plan past rest step first p v come plain none =
     let s = scene_in plan in
@@ -125,7 +100,8 @@ knows_first plan past rest step first p v come plain none =
     record {
       stands = come.stands;
       keeps = step_begins s run past step first p v.tables v.kept plain (λ k. inspects_no_loop plan.checked past step k none) come.keeps;
-      inspected = come.inspected ∙ ap (map pos) (none_noted plan.checked past step none) ∙ sym (present_inspected s run past step first plain);
+      inspected = come.inspected ∙ ap (map pos) (none_noted plan.checked past step none)
+          ∙ sym (present_inspected s run past step first plain);
       text = come.text ∙ ap (text_on p) (sym (plain_text s run past first plain));
       refused = come.refused ∙ sym (not_refused run first plain);
       sized = come.sized;
@@ -133,8 +109,10 @@ knows_first plan past rest step first p v come plain none =
 
 -- ---- what comes
 
-pub coming_of : (plan : RunPlan) (past rest : List Step) (step : Step) (first : Stage) (more : List Stage) (p left : ℕ) (st : NodeState) → IsNext plan past (step ∷ rest) p left st
-    → stages_in plan past step ≡ first ∷ more → is_output first ≡ false → inspects_step plan.checked past step ≡ false → IsComing plan past step rest first more p left st
+pub coming_of : (plan : RunPlan) (past rest : List Step) (step : Step) (first : Stage) (more : List Stage) (p left : ℕ) (st : NodeState)
+    → IsNext plan past (step ∷ rest) p left st
+    → stages_in plan past step ≡ first ∷ more → is_output first ≡ false → inspects_step plan.checked past step ≡ false
+    → IsComing plan past step rest first more p left st
 coming_of plan past rest step first more p left st next stages plain none = record {
   session = next.session;
   node = next.node;
@@ -143,7 +121,8 @@ coming_of plan past rest step first more p left st next stages plain none = reco
   knows = knows_first plan past rest step first p (held_of st) next.come plain none;
 }
 
-pub right_from : (plan : RunPlan) (past rest : List Step) (step : Step) (stages : List Stage) (p : ℕ) (e : Entered) (st : NodeState) → stages_in plan past step ≡ stages
+pub right_from : (plan : RunPlan) (past rest : List Step) (step : Step) (stages : List Stage) (p : ℕ) (e : Entered) (st : NodeState)
+    → stages_in plan past step ≡ stages
     → IsRight plan (left_in plan past step rest stages) p e st → IsRight plan (left_from plan past (step ∷ rest)) p e st
 right_from plan past rest step stages p e st same h = subst (λ l. IsRight plan (left_in plan past step rest l) p e st) (sym same) h
 
@@ -170,13 +149,15 @@ first_in_move (Map array) = record {
 no_bool : {A : Type 0} → true ≡ false → A
 no_bool e = absurd (let h : ⊥ = cc in h)
 
-pub knows_free : (plan : RunPlan) (past : List Step) (step : Step) (first : Stage) (p : ℕ) (sizes : List ℕ) → is_free first ≡ true → KnowsLengths plan past step first p sizes
+pub knows_free : (plan : RunPlan) (past : List Step) (step : Step) (first : Stage) (p : ℕ) (sizes : List ℕ) → is_free first ≡ true
+    → KnowsLengths plan past step first p sizes
 knows_free plan past step first p sizes free = λ known q less. no_bool (sym free ∙ known)
 
 -- ---- a FORALL whose inspection is kept
 
 -- what is kept of it
-zip_at : {B : Type 0} (P : ℕ → B → Type 0) (a n k : ℕ) (ys : List B) → k < n → AllZip P (range_with_len a n) ys → IsSomeAnd (slice_get ys k) (P (a + k))
+zip_at : {B : Type 0} (P : ℕ → B → Type 0) (a n k : ℕ) (ys : List B) → k < n → AllZip P (range_with_len a n) ys
+    → IsSomeAnd (slice_get ys k) (P (a + k))
 zip_at P a zero k ys less h = absurd (omega (arith, less))
 zip_at P a (suc n) k [] less h = absurd h
 zip_at {B} P a (suc n) zero (y ∷ ys) less h = let same : a ≡ a + 0 = omega arith in subst (λ i. P i y) same h.0
@@ -209,7 +190,8 @@ no_offence site true o e h = cc
 no_offence site false None e h = refl
 no_offence site false (Some x) e h = cc
 
-pub can_reuse : (plan : RunPlan) (past rest : List Step) (site : ℕ) (turn : LoopTurn) (p : ℕ) (v : Held) → IsRunPlan plan → HasCome plan past (Forall site turn ∷ rest) p v
+pub can_reuse : (plan : RunPlan) (past rest : List Step) (site : ℕ) (turn : LoopTurn) (p : ℕ) (v : Held) → IsRunPlan plan
+    → HasCome plan past (Forall site turn ∷ rest) p v
     → IsLoopAt (scene_in plan) past site turn false → CanReuse plan past site turn p v
 can_reuse plan past rest site turn p v known come at =
     by (slice_get v.kept site) refl
@@ -225,7 +207,8 @@ can_reuse plan past rest site turn p v known come at =
     all : AllByRecursion (IsStepOf plan.checked) (reverse past ++ (Forall site turn ∷ rest))
     all = subst (AllByRecursion (IsStepOf plan.checked)) (sym come.places.trace) (steps_are_of_the_program plan.checked known.checked)
 
-    can : (x : Prepared) → IsInspected (loop_at (scene_in plan) past site turn) (owners_at (scene_in plan) past) (store_at (scene_in plan) past) p v.tables x
+    can : (x : Prepared) → IsInspected (loop_at (scene_in plan) past site turn) (owners_at (scene_in plan) past)
+        (store_at (scene_in plan) past) p v.tables x
         → CanExecute (scene_in plan) past site turn p v.tables x
     can x fits = record {
       some_nodes = one_at_least plan.nodes known.some;
@@ -234,7 +217,8 @@ can_reuse plan past rest site turn p v known come at =
       history = come.places.history;
       steps = all_reversed (IsStepOf plan.checked) past (all_split (IsStepOf plan.checked) (reverse past) (Forall site turn ∷ rest) all).0;
       known = at.there;
-      sound = no_offence site (is_empty_turn turn) (offence_of plan.checked.arrays (site_at plan.checked.sites site) turn (store_at (scene_in plan) past)) at.some refusal;
+      sound = no_offence site (is_empty_turn turn) (offence_of plan.checked.arrays (site_at plan.checked.sites site) turn
+          (store_at (scene_in plan) past)) at.some refusal;
       inspected = fits;
     }
 
@@ -242,8 +226,10 @@ can_reuse plan past rest site turn p v known come at =
         → CanReuse plan past site turn p v
     by None e h = absurd h
     by (Some kept) e h =
-        let it = kept_fits kept (IsInspected (loop_at (scene_in plan) past site turn) (owners_at (scene_in plan) past) (store_at (scene_in plan) past) p v.tables)
-        (reused_is_kept (scene_in plan) past site turn p v.tables kept known.checked at.there come.places.history at.some at.inspects h).0 in
+        let it = kept_fits kept (IsInspected (loop_at (scene_in plan) past site turn) (owners_at (scene_in plan) past)
+        (store_at (scene_in plan) past) p v.tables)
+        (reused_is_kept (scene_in plan) past site turn p v.tables kept known.checked at.there come.places.history at.some at.inspects h).0
+        in
         record {
           prepared = it.prepared;
           is = ap (λ o. option_and_then prepared_by o) e ∙ it.is;
@@ -284,7 +270,8 @@ map_append (x ∷ xs) ys = ap (λ (l : List ℤ). pos x ∷ l) (map_append xs ys
 
 stages_of_inspection : (plan : RunPlan) (past : List Step) (site : ℕ) (turn : LoopTurn) → IsLoopAt (scene_in plan) past site turn true
     → stages_in plan past (Forall site turn)
-    ≡ stage.InLoop (first_phase (loop_at (scene_in plan) past site turn)) ∷ stages_behind (loop_at (scene_in plan) past site turn) (first_phase (loop_at (scene_in plan) past site turn))
+    ≡ stage.InLoop (first_phase (loop_at (scene_in plan) past site turn)) ∷ stages_behind (loop_at (scene_in plan) past site turn)
+    (first_phase (loop_at (scene_in plan) past site turn))
 stages_of_inspection plan past site turn at =
     (stages_are_known plan past).loops site turn at.some ∙ ap (loop_stages (loop_at (scene_in plan) past site turn)) at.inspects
     ∙ inspection_from_first (loop_at (scene_in plan) past site turn)
@@ -292,7 +279,8 @@ stages_of_inspection plan past site turn at =
 inspection_comes : (plan : RunPlan) (past rest : List Step) (number site : ℕ) (turn : LoopTurn) (p left : ℕ) (st : NodeState)
     → IsNext plan past (Forall site turn ∷ rest) p left st → number ≡ length past → IsLoopAt (scene_in plan) past site turn true
     → IsComing plan past (Forall site turn) rest (stage.InLoop (first_phase (loop_at (scene_in plan) past site turn)))
-    (stages_behind (loop_at (scene_in plan) past site turn) (first_phase (loop_at (scene_in plan) past site turn))) p left (state_noted st number site)
+    (stages_behind (loop_at (scene_in plan) past site turn) (first_phase (loop_at (scene_in plan) past site turn))) p left
+    (state_noted st number site)
 inspection_comes plan past rest number site turn p left st next numbered at =
     let s = scene_in plan in
     let c = plan.checked in
@@ -306,7 +294,8 @@ inspection_comes plan past rest number site turn p left st next numbered at =
       session = next.session;
       node = next.node;
       places = come.places;
-      left_is = next.left_is ∙ ap (λ l. length (whole_in plan past (Forall site turn) rest l)) (stages_of_inspection plan past site turn at);
+      left_is = next.left_is ∙ ap (λ l. length (whole_in plan past (Forall site turn) rest l))
+          (stages_of_inspection plan past site turn at);
       knows = record {
         stands = record {
           parts = come.stands.parts;
@@ -316,7 +305,8 @@ inspection_comes plan past rest number site turn p left st next numbered at =
           counts = come.stands.counts;
           places = come.stands.places;
         };
-        keeps = inspection_begins s (run_in plan) past site turn (first_phase f) p st.holdings.tables st.holdings.tables st.holdings.kept at.inspects
+        keeps = inspection_begins s (run_in plan) past site turn (first_phase f) p st.holdings.tables st.holdings.tables st.holdings.kept
+            at.inspects
             (not_executing (asks_places f Indexes) (has_indexes f)) (λ k other steps t owners store q x h. h) come.keeps;
         inspected = noted;
         text = come.text;
@@ -345,23 +335,28 @@ with_begin e = record e { begins = true }
 same_state : (st : NodeState) (e : Entered) (number site : ℕ) → e.begins ≡ false → e.at.execution ≡ number → e.at.site ≡ site
     → entered_state (state_noted st number site) e ≡ entered_state st (with_begin e)
 same_state st e number site plain execution place =
-    ap (entered_with (state_noted st number site) e) plain ∙ ap (λ n. noted_at st e n site) (sym execution) ∙ ap (noted_at st e e.at.execution) (sym place)
+    ap (entered_with (state_noted st number site) e) plain ∙ ap (λ n. noted_at st e n site) (sym execution)
+    ∙ ap (noted_at st e e.at.execution) (sym place)
 
 -- what the entered phase of an inspection is told to be
 abbrev pub EntersInspection : Session → ℕ → ℕ → ℕ → Inspection → List (List ℤ) → List (Option Pages) → List ℕ → ℕ → Entered → Type 0
 EntersInspection session me number site i parts pages sizes left e =
-    (plan : RunPlan) (past rest : List Step) (turn : LoopTurn) (present : LoopPhase) (st : NodeState) → IsRunPlan plan → session ≡ session_in plan → number ≡ length past
-    → IsComing plan past (Forall site turn) rest (stage.InLoop present) (stages_behind (loop_at (scene_in plan) past site turn) present) me left st
+    (plan : RunPlan) (past rest : List Step) (turn : LoopTurn) (present : LoopPhase) (st : NodeState) → IsRunPlan plan
+    → session ≡ session_in plan → number ≡ length past
+    → IsComing plan past (Forall site turn) rest (stage.InLoop present) (stages_behind (loop_at (scene_in plan) past site turn) present)
+    me left st
     → GoesOnInspecting plan past site turn present me st.holdings.tables i → parts ≡ st.holdings.parts → pages ≡ st.holdings.pages
     → KnowsLengths plan past (Forall site turn) (stage.InLoop present) me sizes
-    → IsRight plan (left_in plan past (Forall site turn) rest (stage.InLoop present ∷ stages_behind (loop_at (scene_in plan) past site turn) present)) me e st
+    → IsRight plan (left_in plan past (Forall site turn) rest
+    (stage.InLoop present ∷ stages_behind (loop_at (scene_in plan) past site turn) present)) me e st
 
 -- a new inspection of this loop
 pub record IsNew (i : Inspection) (f : LoopFacts) (me : ℕ) : Type 0 where
   pub facts : i.facts ≡ f
   pub node : i.me ≡ me
   pub phase_is : phase_of i.stage ≡ Some (first_phase f)
-  pub inspecting : (owners : List (List ℕ)) (store : List (List ℤ)) (tables : List Stamps) → AreOwners f owners → IsInspecting i owners store tables
+  pub inspecting : (owners : List (List ℕ)) (store : List (List ℤ)) (tables : List Stamps) → AreOwners f owners
+      → IsInspecting i owners store tables
 
 pub record IsPlacedAt (number site : ℕ) (e : Entered) : Type 0 where
   pub begins : e.begins ≡ false
@@ -374,7 +369,8 @@ pub record IsLoopStep (s : Scene) (past : List Step) (step : Step) (site : ℕ) 
   pub is : step ≡ Forall site turn
   pub at : IsLoopAt s past site turn does
 
-pub loop_step : (s : Scene) (past : List Step) (step : Step) (site : ℕ) (does : Bool) → site ≡ site_of step → BeginsLoop s past step does → IsLoopStep s past step site does
+pub loop_step : (s : Scene) (past : List Step) (step : Step) (site : ℕ) (does : Bool) → site ≡ site_of step → BeginsLoop s past step does
+    → IsLoopStep s past step site does
 loop_step s past step site does named loop =
     let same : loop.site ≡ site = sym (named ∙ ap site_of loop.is) in
     record {
@@ -383,17 +379,22 @@ loop_step s past step site does named loop =
       at = subst (λ k. IsLoopAt s past k loop.turn does) same loop.at;
     }
 
-pub begin_is_right : (session : Session) (b : Between) (pages : List (Option Pages)) (number site : ℕ) (f : LoopFacts) (left : ℕ) (i : Inspection) (e : Entered)
+pub begin_is_right : (session : Session) (b : Between) (pages : List (Option Pages)) (number site : ℕ) (f : LoopFacts) (left : ℕ)
+    (i : Inspection) (e : Entered)
     → IsNew i f b.me → IsPlacedAt number site e → EntersInspection session b.me number site i b.parts.now pages [] left e
-    → (plan : RunPlan) (past rest : List Step) (step : Step) (st : NodeState) → IsRunPlan plan → session ≡ session_in plan → number ≡ length past → site ≡ site_of step
-    → IsHere plan b (held_of st) → pages ≡ st.holdings.pages → IsNext plan past (step ∷ rest) b.me left st → BeginsInspection (scene_in plan) past step f
+    → (plan : RunPlan) (past rest : List Step) (step : Step) (st : NodeState) → IsRunPlan plan → session ≡ session_in plan
+    → number ≡ length past → site ≡ site_of step
+    → IsHere plan b (held_of st) → pages ≡ st.holdings.pages → IsNext plan past (step ∷ rest) b.me left st
+    → BeginsInspection (scene_in plan) past step f
     → IsRight plan (left_from plan past (step ∷ rest)) b.me (with_begin e) st
-begin_is_right session b pages number site f left i e new placed enters plan past rest step st known same numbered named here paged next begins =
+begin_is_right session b pages number site f left i e new placed enters plan past rest step st known same numbered named here paged next
+    begins =
     let s = scene_in plan in
     let loop = loop_step s past step site true named begins.loop in
     let owned = begins.owners in
     let facts : f ≡ loop_at s past site loop.turn = begins.facts ∙ facts_same s past step site begins.loop loop in
-    let later : IsNext plan past (Forall site loop.turn ∷ rest) b.me left st = subst (λ (x : Step). IsNext plan past (x ∷ rest) b.me left st) loop.is next in
+    let later : IsNext plan past (Forall site loop.turn ∷ rest) b.me left st =
+    subst (λ (x : Step). IsNext plan past (x ∷ rest) b.me left st) loop.is next in
     let present = first_phase (loop_at s past site loop.turn) in
     let goes_on : GoesOnInspecting plan past site loop.turn present b.me st.holdings.tables i = record {
       phase_is = new.phase_is ∙ ap (λ x. Some (first_phase x)) facts;
@@ -405,17 +406,22 @@ begin_is_right session b pages number site f left i e new placed enters plan pas
     } in
     let right = enters plan past rest loop.turn present (state_noted st number site) known same numbered
     (inspection_comes plan past rest number site loop.turn b.me left st later numbered loop.at) goes_on (sym here.parts) paged
-    (knows_free plan past (Forall site loop.turn) (stage.InLoop present) b.me [] (free_first (asks_places (loop_at s past site loop.turn) Indexes) (has_indexes (loop_at s past site loop.turn)))) in
-    let phases = left_in plan past (Forall site loop.turn) rest (stage.InLoop present ∷ stages_behind (loop_at s past site loop.turn) present) in
+    (knows_free plan past (Forall site loop.turn) (stage.InLoop present) b.me []
+    (free_first (asks_places (loop_at s past site loop.turn) Indexes) (has_indexes (loop_at s past site loop.turn)))) in
+    let phases = left_in plan past (Forall site loop.turn) rest (stage.InLoop present ∷ stages_behind (loop_at s past site loop.turn)
+    present) in
     let begun : IsRight plan phases b.me (with_begin e) st = record {
       face = right.face;
-      holds = subst (λ x. HoldsAt plan phases b.me x) (same_state st e number site placed.begins placed.execution placed.site_is) right.holds;
+      holds = subst (λ x. HoldsAt plan phases b.me x) (same_state st e number site placed.begins placed.execution placed.site_is)
+          right.holds;
     } in
     subst (λ (x : Step). IsRight plan (left_from plan past (x ∷ rest)) b.me (with_begin e) st) (sym loop.is)
-    (right_from plan past rest (Forall site loop.turn) (stage.InLoop present ∷ stages_behind (loop_at s past site loop.turn) present) b.me (with_begin e) st
+    (right_from plan past rest (Forall site loop.turn) (stage.InLoop present ∷ stages_behind (loop_at s past site loop.turn) present) b.me
+    (with_begin e) st
     (stages_of_inspection plan past site loop.turn loop.at) begun)
   where
-    facts_same : (s : Scene) (past : List Step) (step : Step) (site : ℕ) (loop : BeginsLoop s past step true) (found : IsLoopStep s past step site true)
+    facts_same : (s : Scene) (past : List Step) (step : Step) (site : ℕ) (loop : BeginsLoop s past step true)
+        (found : IsLoopStep s past step site true)
         → loop_at s past loop.site loop.turn ≡ loop_at s past site found.turn
     facts_same s past step site loop found = ap (facts_of_step s past) (sym loop.is ∙ found.is)
 
@@ -423,9 +429,11 @@ begin_is_right session b pages number site f left i e new placed enters plan pas
 
 abbrev pub EntersGather : Session → ℕ → ℕ → ℕ → Prepared → List (List ℤ) → ℕ → Entered → Type 0
 EntersGather session me number site prepared parts left e =
-    (plan : RunPlan) (past rest : List Step) (turn : LoopTurn) (st : NodeState) → IsRunPlan plan → session ≡ session_in plan → number ≡ length past
+    (plan : RunPlan) (past rest : List Step) (turn : LoopTurn) (st : NodeState) → IsRunPlan plan → session ≡ session_in plan
+    → number ≡ length past
     → IsComing plan past (Forall site turn) rest (stage.InLoop phase.Gather) (stage.InLoop phase.Scatter ∷ []) me left st
-    → is_empty_turn turn ≡ false → prepared_in st.holdings.kept site ≡ Some prepared → CanExecute (scene_in plan) past site turn me st.holdings.tables prepared
+    → is_empty_turn turn ≡ false → prepared_in st.holdings.kept site ≡ Some prepared
+    → CanExecute (scene_in plan) past site turn me st.holdings.tables prepared
     → parts ≡ st.holdings.parts
     → IsRight plan (left_in plan past (Forall site turn) rest (stage.InLoop phase.Gather ∷ stage.InLoop phase.Scatter ∷ [])) me e st
 
@@ -437,12 +445,15 @@ pub record IsReused (plan : RunPlan) (past rest : List Step) (step : Step) (b : 
   pub coming : IsComing plan past (Forall site loop.turn) rest (stage.InLoop phase.Gather) (stage.InLoop phase.Scatter ∷ []) b.me left st
   pub stages : stages_in plan past (Forall site loop.turn) ≡ stage.InLoop phase.Gather ∷ stage.InLoop phase.Scatter ∷ []
 
-pub is_reused : (plan : RunPlan) (past rest : List Step) (step : Step) (b : Between) (site left : ℕ) (st : NodeState) → IsRunPlan plan → site ≡ site_of step
-    → IsHere plan b (held_of st) → IsNext plan past (step ∷ rest) b.me left st → BeginsLoop (scene_in plan) past step false → IsReused plan past rest step b site left st
+pub is_reused : (plan : RunPlan) (past rest : List Step) (step : Step) (b : Between) (site left : ℕ) (st : NodeState) → IsRunPlan plan
+    → site ≡ site_of step
+    → IsHere plan b (held_of st) → IsNext plan past (step ∷ rest) b.me left st → BeginsLoop (scene_in plan) past step false
+    → IsReused plan past rest step b site left st
 is_reused plan past rest step b site left st known named here next begins =
     let s = scene_in plan in
     let loop = loop_step s past step site false named begins in
-    let later : IsNext plan past (Forall site loop.turn ∷ rest) b.me left st = subst (λ (x : Step). IsNext plan past (x ∷ rest) b.me left st) loop.is next in
+    let later : IsNext plan past (Forall site loop.turn ∷ rest) b.me left st =
+    subst (λ (x : Step). IsNext plan past (x ∷ rest) b.me left st) loop.is next in
     let reuse = can_reuse plan past rest site loop.turn b.me (held_of st) known later.come loop.at in
     let stages : stages_in plan past (Forall site loop.turn) ≡ stage.InLoop phase.Gather ∷ stage.InLoop phase.Scatter ∷ []
     = (stages_are_known plan past).loops site loop.turn loop.at.some ∙ ap (loop_stages (loop_at s past site loop.turn)) loop.at.inspects in
@@ -450,7 +461,8 @@ is_reused plan past rest step b site left st known named here next begins =
       loop = loop;
       reuse = reuse;
       there = here.kept.inspections site reuse.prepared reuse.is;
-      coming = coming_of plan past rest (Forall site loop.turn) (stage.InLoop phase.Gather) (stage.InLoop phase.Scatter ∷ []) b.me left st later stages refl loop.at.inspects;
+      coming = coming_of plan past rest (Forall site loop.turn) (stage.InLoop phase.Gather) (stage.InLoop phase.Scatter ∷ []) b.me left st
+          later stages refl loop.at.inspects;
       stages = stages;
     }
 
@@ -459,7 +471,8 @@ some_same x y e = cc
 
 pub execute_is_right : (session : Session) (b : Between) (number site : ℕ) (prepared : Prepared) (left : ℕ) (e : Entered)
     → prepared_in b.kept.now site ≡ Some prepared → EntersGather session b.me number site prepared b.parts.now left e
-    → (plan : RunPlan) (past rest : List Step) (step : Step) (st : NodeState) → IsRunPlan plan → session ≡ session_in plan → number ≡ length past → site ≡ site_of step
+    → (plan : RunPlan) (past rest : List Step) (step : Step) (st : NodeState) → IsRunPlan plan → session ≡ session_in plan
+    → number ≡ length past → site ≡ site_of step
     → IsHere plan b (held_of st) → IsNext plan past (step ∷ rest) b.me left st → BeginsLoop (scene_in plan) past step false
     → IsRight plan (left_from plan past (step ∷ rest)) b.me e st
 execute_is_right session b number site prepared left e found enters plan past rest step st known same numbered named here next begins =
@@ -476,7 +489,8 @@ no_some x e = cc
 
 -- nothing kept can't be
 pub nothing_kept : (session : Session) (b : Between) (number site left : ℕ) (e : Entered) → prepared_in b.kept.now site ≡ None
-    → (plan : RunPlan) (past rest : List Step) (step : Step) (st : NodeState) → IsRunPlan plan → session ≡ session_in plan → number ≡ length past → site ≡ site_of step
+    → (plan : RunPlan) (past rest : List Step) (step : Step) (st : NodeState) → IsRunPlan plan → session ≡ session_in plan
+    → number ≡ length past → site ≡ site_of step
     → IsHere plan b (held_of st) → IsNext plan past (step ∷ rest) b.me left st → BeginsLoop (scene_in plan) past step false
     → IsRight plan (left_from plan past (step ∷ rest)) b.me e st
 nothing_kept session b number site left e none plan past rest step st known same numbered named here next begins =
@@ -485,26 +499,32 @@ nothing_kept session b number site left e none plan past rest step st known same
 
 -- ---- a PRINT and a move
 
-pub print_begins : (plan : RunPlan) (past rest : List Step) (step : Step) (array p left : ℕ) (e : Entered) (st : NodeState) → step ≡ Print array
+pub print_begins : (plan : RunPlan) (past rest : List Step) (step : Step) (array p left : ℕ) (e : Entered) (st : NodeState)
+    → step ≡ Print array
     → IsNext plan past (step ∷ rest) p left st
-    → (IsComing plan past (Print array) rest stage.Print [] p left st → IsRight plan (left_in plan past (Print array) rest (stage.Print ∷ [])) p e st)
+    → (IsComing plan past (Print array) rest stage.Print [] p left st
+    → IsRight plan (left_in plan past (Print array) rest (stage.Print ∷ [])) p e st)
     → IsRight plan (left_from plan past (step ∷ rest)) p e st
 print_begins plan past rest step array p left e st is next enters =
     subst (λ (x : Step). IsRight plan (left_from plan past (x ∷ rest)) p e st) (sym is)
     (right_from plan past rest (Print array) (stage.Print ∷ []) p e st refl
-    (enters (coming_of plan past rest (Print array) stage.Print [] p left st (subst (λ (x : Step). IsNext plan past (x ∷ rest) p left st) is next) refl refl refl)))
+    (enters (coming_of plan past rest (Print array) stage.Print [] p left st (subst (λ (x : Step). IsNext plan past (x ∷ rest) p left st)
+    is next) refl refl refl)))
 
 abbrev pub EntersMove : Session → ℕ → ℕ → Moving → List ℕ → ℕ → Entered → Type 0
 EntersMove session me number m sizes left e =
-    (plan : RunPlan) (past rest : List Step) (form : StepForm) (now : Stage) (more : List Stage) (st : NodeState) → IsRunPlan plan → session ≡ session_in plan
+    (plan : RunPlan) (past rest : List Step) (form : StepForm) (now : Stage) (more : List Stage) (st : NodeState) → IsRunPlan plan
+    → session ≡ session_in plan
     → number ≡ length past → IsComing plan past (Distribute m.share.decomposition form) rest now more me left st
     → GoesOnMoving plan past m.share.decomposition form now more me m
     → KnowsLengths plan past (Distribute m.share.decomposition form) now me sizes
     → IsRight plan (left_in plan past (Distribute m.share.decomposition form) rest (now ∷ more)) me e st
 
 pub move_begins : (session : Session) (me number : ℕ) (m : Moving) (left : ℕ) (e : Entered) → EntersMove session me number m [] left e
-    → (plan : RunPlan) (past rest : List Step) (step : Step) (st : NodeState) → IsRunPlan plan → session ≡ session_in plan → number ≡ length past
-    → IsNext plan past (step ∷ rest) me left st → BeginsMove (scene_in plan) past step me m → IsRight plan (left_from plan past (step ∷ rest)) me e st
+    → (plan : RunPlan) (past rest : List Step) (step : Step) (st : NodeState) → IsRunPlan plan → session ≡ session_in plan
+    → number ≡ length past
+    → IsNext plan past (step ∷ rest) me left st → BeginsMove (scene_in plan) past step me m
+    → IsRight plan (left_from plan past (step ∷ rest)) me e st
 move_begins session me number m left e enters plan past rest step st known same numbered next begins =
     let s = scene_in plan in
     let d = m.share.decomposition in
@@ -513,7 +533,8 @@ move_begins session me number m left e enters plan past rest step st known same 
     let is : step ≡ Distribute d form = begins.is ∙ ap (λ k. Distribute k form) equal in
     let moves : is_repeat plan.checked past d form ≡ false = subst (λ k. is_repeat plan.checked past k form ≡ false) equal begins.moves in
     let first = first_in_move form in
-    let stages : stages_in plan past (Distribute d form) ≡ first.first ∷ first.more = (stages_are_known plan past).moves d form moves ∙ first.is in
+    let stages : stages_in plan past (Distribute d form) ≡ first.first ∷ first.more = (stages_are_known plan past).moves d form moves
+    ∙ first.is in
     let goes_on : GoesOnMoving plan past d form first.first first.more me m = record {
       left = begins.begins.stages ∙ first.is;
       repeats = moves;
@@ -525,15 +546,18 @@ move_begins session me number m left e enters plan past rest step st known same 
     subst (λ (x : Step). IsRight plan (left_from plan past (x ∷ rest)) me e st) (sym is)
     (right_from plan past rest (Distribute d form) (first.first ∷ first.more) me e st stages
     (enters plan past rest form first.first first.more st known same numbered
-    (coming_of plan past rest (Distribute d form) first.first first.more me left st (subst (λ (x : Step). IsNext plan past (x ∷ rest) me left st) is next) stages first.plain refl)
+    (coming_of plan past rest (Distribute d form) first.first first.more me left st
+    (subst (λ (x : Step). IsNext plan past (x ∷ rest) me left st) is next) stages first.plain refl)
     goes_on (knows_free plan past (Distribute d form) first.first me [] first.free)))
 
 -- ---- behind the steps
 
 -- the next step is entered
-pub next_enters : (plan : RunPlan) (past rest : List Step) (p left : ℕ) (st : NodeState) (number site : ℕ) (x : Begun) (e : Entered) → IsNext plan past rest p left st
+pub next_enters : (plan : RunPlan) (past rest : List Step) (p left : ℕ) (st : NodeState) (number site : ℕ) (x : Begun) (e : Entered)
+    → IsNext plan past rest p left st
     → FindsStep plan past rest p (held_of st) number site x
-    → ((before behind : List Step) (step : Step) → number ≡ length before → site ≡ site_of step → IsNext plan before (step ∷ behind) p left st
+    → ((before behind : List Step) (step : Step) → number ≡ length before → site ≡ site_of step
+    → IsNext plan before (step ∷ behind) p left st
     → IsBegun (scene_in plan) before step p x → IsRight plan (left_from plan before (step ∷ behind)) p e st)
     → IsRight plan (left_from plan past rest) p e st
 next_enters plan past rest p left st number site x e next found enters =
@@ -554,7 +578,8 @@ none_found plan past rest p left st e next found enters =
       history = found.come.places.history;
       stands = found.come.stands;
       keeps = zip_weaker (λ k. KeepsLoop s found.before k p v.tables) (KeepsAtEnd s run found.before p v.tables)
-          (λ k kept held. subst (λ o. MatchBool (is_stopped o k) (kept ≡ None) (KeepsLoop s found.before k p v.tables kept)) (sym behind.refused) held)
+          (λ k kept held. subst (λ o. MatchBool (is_stopped o k) (kept ≡ None) (KeepsLoop s found.before k p v.tables kept))
+          (sym behind.refused) held)
           (below (length plan.checked.sites)) v.kept found.come.keeps;
       inspected = found.come.inspected ∙ ap (λ steps. map pos (inspecting_of plan.checked steps)) (sym behind.executed);
       text = found.come.text ∙ ap (text_on p) (sym (append-nil (lines_of s found.before ++ refusal_text plan.checked run.refused)
@@ -573,7 +598,8 @@ none_found plan past rest p left st e next found enters =
 
 -- ---- what the functions give
 
-pub begin_stands : (me nodes number site : ℕ) (e : Entered) → CanStand me nodes e → IsPlacedAt number site e → number < 2 ^ 63 → CanStand me nodes (with_begin e)
+pub begin_stands : (me nodes number site : ℕ) (e : Entered) → CanStand me nodes e → IsPlacedAt number site e → number < 2 ^ 63
+    → CanStand me nodes (with_begin e)
 begin_stands me nodes number site e h placed less = record {
   left = h.left;
   out = h.out;

@@ -2,17 +2,19 @@
 use Rattle.std.specs.Prelude.{◌≡◌, refl, ℕ, ◌+◌, ◌&&◌, ◌||◌, Bool, true, false, if◌then◌else◌, List, [], ◌∷◌, ◌++◌, map, Some, None}
 use Rattle.std.specs.List.{enumerate_from, list_any}
 use Rattle.std.proofs.Common.{ap, subst}
-use Rattle.fd_program.specs.Uses.{is_index}
+use Rattle.fd_words.specs.Roles.{is_index}
 use Rattle.fd_program.specs.declared.reference.Reference.{Reference}
-use Rattle.chaos_run.specs.Phases.{loop_stages}
+use Rattle.plan_run.specs.Phases.{loop_stages}
+use Rattle.chaos_inspect.specs.PhaseLaws.{indexes_from}
 use Rattle.chaos_inspect.specs.Inspecting.{first_phase, has_indexes, phase_after, phase_first}
 use Rattle.fd_program.specs.declared.loop_facts.LoopFacts.{LoopFacts}
-use Rattle.chaos_phases.specs.LoopLetters.{asking_phases, asks_places, executor_phases, is_for, is_map, layout_for, phases_from_vote}
-use Rattle.chaos_phases.specs.declared.loop_phase.Asking.TheVariants.{Indexes, Homes, References}
-use Rattle.chaos_phases.specs.declared.loop_phase.LoopPhase.{LoopPhase}
-use Rattle.chaos_phases.specs.declared.loop_phase.LoopPhase.TheVariants as phase
-use Rattle.chaos_run.specs.declared.stage.Stage.{Stage}
-use Rattle.chaos_run.specs.declared.stage.Stage.TheVariants as stage
+use Rattle.plan_loop.specs.LoopLetters.{asking_phases, asks_places, executor_phases, is_for, phases_from_vote}
+use Rattle.fd_program.specs.Met.{is_map, layout_for}
+use Rattle.plan_loop.specs.declared.loop_phase.Asking.TheVariants.{Indexes, Homes, References}
+use Rattle.plan_loop.specs.declared.loop_phase.LoopPhase.{LoopPhase}
+use Rattle.plan_loop.specs.declared.loop_phase.LoopPhase.TheVariants as phase
+use Rattle.plan_run.specs.declared.stage.Stage.{Stage}
+use Rattle.plan_run.specs.declared.stage.Stage.TheVariants as stage
 
 -- the phases of an inspection that follow a phase, where the vote has no offence
 abbrev pub phases_behind : LoopFacts → LoopPhase → List LoopPhase
@@ -40,31 +42,41 @@ some_of : {A : Type 0} (P : A → Type 0) (x y : A) → Some x ≡ Some y → P 
 some_of P x y e h = subst P (let same : x ≡ y = cc in same) h
 
 behind_vote : (f : LoopFacts) (b : Bool)
-    → (if b then phase.DerefAsk Homes ∷ phase.DerefAnswer Homes ∷ [] else []) ++ phase.Iterations ∷ [] ++ asking_phases f References ++ phase.ScheduleAsk ∷ []
+    → (if b then phase.DerefAsk Homes ∷ phase.DerefAnswer Homes ∷ [] else []) ++ phase.Iterations ∷ [] ++ asking_phases f References
+    ++ phase.ScheduleAsk ∷ []
     ≡ (if b then phase.DerefAsk Homes else phase.Iterations) ∷ phases_behind f (if b then phase.DerefAsk Homes else phase.Iterations)
 behind_vote f true = refl
 behind_vote f false = refl
 
 behind_rows : (f : LoopFacts) (b : Bool)
     → (if b then phase.DerefAsk References ∷ phase.DerefAnswer References ∷ [] else []) ++ phase.ScheduleAsk ∷ []
-    ≡ (if b then phase.DerefAsk References else phase.ScheduleAsk) ∷ phases_behind f (if b then phase.DerefAsk References else phase.ScheduleAsk)
+    ≡ (if b then phase.DerefAsk References else phase.ScheduleAsk) ∷ phases_behind f (if b then phase.DerefAsk References
+    else phase.ScheduleAsk)
 behind_rows f true = refl
 behind_rows f false = refl
 
 -- the phase that follows is the first of those behind
 pub phases_go_on : (f : LoopFacts) (l next : LoopPhase) → phase_after f l ≡ Some next → phases_behind f l ≡ next ∷ phases_behind f next
-phases_go_on f (phase.DerefAsk Indexes) next e = some_of (λ x. phases_behind f (phase.DerefAsk Indexes) ≡ x ∷ phases_behind f x) (phase.DerefAnswer Indexes) next e refl
-phases_go_on f (phase.DerefAsk Homes) next e = some_of (λ x. phases_behind f (phase.DerefAsk Homes) ≡ x ∷ phases_behind f x) (phase.DerefAnswer Homes) next e refl
-phases_go_on f (phase.DerefAsk References) next e = some_of (λ x. phases_behind f (phase.DerefAsk References) ≡ x ∷ phases_behind f x) (phase.DerefAnswer References) next e refl
-phases_go_on f (phase.DerefAnswer Indexes) next e = some_of (λ x. phases_behind f (phase.DerefAnswer Indexes) ≡ x ∷ phases_behind f x) phase.IndexAsk next e refl
-phases_go_on f (phase.DerefAnswer Homes) next e = some_of (λ x. phases_behind f (phase.DerefAnswer Homes) ≡ x ∷ phases_behind f x) phase.Iterations next e refl
-phases_go_on f (phase.DerefAnswer References) next e = some_of (λ x. phases_behind f (phase.DerefAnswer References) ≡ x ∷ phases_behind f x) phase.ScheduleAsk next e refl
+phases_go_on f (phase.DerefAsk Indexes) next e = some_of (λ x. phases_behind f (phase.DerefAsk Indexes) ≡ x ∷ phases_behind f x)
+    (phase.DerefAnswer Indexes) next e refl
+phases_go_on f (phase.DerefAsk Homes) next e = some_of (λ x. phases_behind f (phase.DerefAsk Homes) ≡ x ∷ phases_behind f x)
+    (phase.DerefAnswer Homes) next e refl
+phases_go_on f (phase.DerefAsk References) next e = some_of (λ x. phases_behind f (phase.DerefAsk References) ≡ x ∷ phases_behind f x)
+    (phase.DerefAnswer References) next e refl
+phases_go_on f (phase.DerefAnswer Indexes) next e = some_of (λ x. phases_behind f (phase.DerefAnswer Indexes) ≡ x ∷ phases_behind f x)
+    phase.IndexAsk next e refl
+phases_go_on f (phase.DerefAnswer Homes) next e = some_of (λ x. phases_behind f (phase.DerefAnswer Homes) ≡ x ∷ phases_behind f x)
+    phase.Iterations next e refl
+phases_go_on f (phase.DerefAnswer References) next e = some_of (λ x. phases_behind f (phase.DerefAnswer References) ≡ x
+    ∷ phases_behind f x) phase.ScheduleAsk next e refl
 phases_go_on f phase.IndexAsk next e = some_of (λ x. phases_behind f phase.IndexAsk ≡ x ∷ phases_behind f x) phase.IndexValues next e refl
 phases_go_on f phase.IndexValues next e = some_of (λ x. phases_behind f phase.IndexValues ≡ x ∷ phases_behind f x) phase.Vote next e refl
 phases_go_on f phase.Vote next e =
-    some_of (λ x. phases_behind f phase.Vote ≡ x ∷ phases_behind f x) (if asks_places f Homes then phase.DerefAsk Homes else phase.Iterations) next e (behind_vote f (asks_places f Homes))
+    some_of (λ x. phases_behind f phase.Vote ≡ x ∷ phases_behind f x) (if asks_places f Homes then phase.DerefAsk Homes
+    else phase.Iterations) next e (behind_vote f (asks_places f Homes))
 phases_go_on f phase.Iterations next e =
-    some_of (λ x. phases_behind f phase.Iterations ≡ x ∷ phases_behind f x) (if asks_places f References then phase.DerefAsk References else phase.ScheduleAsk) next e
+    some_of (λ x. phases_behind f phase.Iterations ≡ x ∷ phases_behind f x) (if asks_places f References then phase.DerefAsk References
+    else phase.ScheduleAsk) next e
     (behind_rows f (asks_places f References))
 phases_go_on f phase.ScheduleAsk next e = cc
 phases_go_on f phase.Gather next e = cc
@@ -84,24 +96,15 @@ phases_end f phase.ScheduleAsk e = refl
 phases_end f phase.Gather e = refl
 phases_end f phase.Scatter e = refl
 
-pub stages_go_on : (f : LoopFacts) (l next : LoopPhase) → phase_after f l ≡ Some next → stages_behind f l ≡ stage.InLoop next ∷ stages_behind f next
+pub stages_go_on : (f : LoopFacts) (l next : LoopPhase) → phase_after f l ≡ Some next → stages_behind f l ≡ stage.InLoop next
+    ∷ stages_behind f next
 stages_go_on f l next e = ap (λ ls. map stage.InLoop (ls ++ executor_phases)) (phases_go_on f l next e)
 
-pub stages_end : (f : LoopFacts) (l : LoopPhase) → phase_after f l ≡ None → stages_behind f l ≡ stage.InLoop phase.Gather ∷ stage.InLoop phase.Scatter ∷ []
+pub stages_end : (f : LoopFacts) (l : LoopPhase) → phase_after f l ≡ None → stages_behind f l ≡ stage.InLoop phase.Gather
+    ∷ stage.InLoop phase.Scatter ∷ []
 stages_end f l e = ap (λ ls. map stage.InLoop (ls ++ executor_phases)) (phases_end f l e)
 
 -- ---- from the first on
-
-indexes_from : (f : LoopFacts) (number : ℕ) (references : List Reference)
-    → list_any (λ (n, r). is_for f Indexes n r.role && is_map (layout_for f r.array).form) (enumerate_from number references) ≡ true
-    → list_any (λ (r : Reference). is_index r.role) references ≡ true
-indexes_from f number [] e = e
-indexes_from f number (r ∷ rs) e = by (is_index r.role) (is_map (layout_for f r.array).form) _ e (indexes_from f (number + 1) rs)
-  where
-    by : (a b c : Bool) → ((a && b) || c) ≡ true → (c ≡ true → list_any (λ (s : Reference). is_index s.role) rs ≡ true)
-        → (a || list_any (λ (s : Reference). is_index s.role) rs) ≡ true
-    by true b c e rest = refl
-    by false b c e rest = rest e
 
 abbrev asked_if : Bool → List LoopPhase
 asked_if b = if b then phase.DerefAsk Indexes ∷ phase.DerefAnswer Indexes ∷ [] else []

@@ -1,29 +1,30 @@
 -- What a node is about to begin, and what it is once it has begun that.
-use Rattle.std.specs.Prelude.{◌≡◌, ℕ, ◌+◌, ◌≤◌, ◌<◌, ◌^◌, ℤ, pos, Bool, true, false, if◌then◌else◌, List, [], ◌∷◌, ◌++◌, drop, length, map, slice_set, Option, Some, vec_capacity}
+use Rattle.std.specs.Prelude.{◌≡◌, ℕ, ◌+◌, ◌≤◌, ◌<◌, ◌^◌, ℤ, pos, Bool, true, false, if◌then◌else◌, List, [], ◌∷◌, ◌++◌, drop, length, map}
+use Rattle.std.specs.Prelude.{slice_set, Option, Some, vec_capacity}
 use Rattle.bsp_core.specs.Views.{Ascends, Face, nodes_in}
 use Rattle.fd_program.specs.Reports.{completed_of}
 use Rattle.fd_program.specs.declared.trace.Step.{Step}
 use Rattle.chaos_begin.specs.Begins.{IsBegun, IsPlain, latest_kept}
 use Rattle.chaos_begin.specs.declared.begun.Begun.{Begun}
 use Rattle.chaos_begin.specs.declared.between.Between.{Between}
-use Rattle.chaos_run.specs.Held.{Held}
-use Rattle.chaos_run.specs.Phases.{Phase, is_free, numbers_at, site_of}
-use Rattle.chaos_run.specs.Rows.{RunPlan, face_left, run_in, scene_in}
-use Rattle.chaos_run.specs.declared.stage.Stage.{Stage}
-use Rattle.chaos_places.specs.Letters.{number_in}
-use Rattle.chaos_places.specs.Places.{StandsBefore, left_from, whole_from, whole_left}
+use Rattle.plan_run.specs.Held.{Held}
+use Rattle.plan_run.specs.Phases.{Phase, is_free, numbers_at, site_of}
+use Rattle.plan_run.specs.Rows.{RunPlan, face_left, run_in, scene_in}
+use Rattle.plan_run.specs.declared.stage.Stage.{Stage}
+use Rattle.plan_walk.specs.Letters.{number_in}
+use Rattle.plan_walk.specs.Places.{StandsBefore, left_from, whole_from, whole_left}
 use Rattle.chaos_entering.specs.Entering.{counts_behind}
 use Rattle.chaos_holdings.specs.Keeping.{no_kept, prepared_in}
 use Rattle.chaos_entering.specs.Standing.{HoldsAt, HasCome, Knows, KnowsBehind, session_in}
 use Rattle.chaos_entering.specs.State.{NodeState, held_of}
-use Rattle.chaos_reach.specs.Accepted.{IsAccepted}
+use Rattle.inspect_uses.specs.Accepted.{IsAccepted}
 use Rattle.chaos_entering.specs.declared.activity.Activity.{Activity}
 use Rattle.chaos_entering.specs.declared.activity.Activity.TheVariants.{Inspecting}
 use Rattle.chaos_entering.specs.declared.entered.Entered.{Entered}
 use Rattle.chaos_holdings.specs.declared.holdings.Holdings.{Holdings}
 use Rattle.chaos_entering.specs.declared.found.Found.{Found}
 use Rattle.chaos_entering.specs.declared.found.Found.TheVariants as found
-use Rattle.chaos_run.specs.declared.kept.Kept.{Kept}
+use Rattle.plan_run.specs.declared.kept.Kept.{Kept}
 use Rattle.chaos_sched.specs.declared.prepared.Prepared.{Prepared}
 
 -- ---- what was entered
@@ -68,7 +69,8 @@ pub record IsRight (plan : RunPlan) (phases : List Phase) (p : ℕ) (e : Entered
 -- ---- what is about to begin
 
 -- a stage of a step, with so many phases left
-pub record IsComing (plan : RunPlan) (past : List Step) (step : Step) (rest : List Step) (stage : Stage) (more : List Stage) (p left : ℕ) (st : NodeState) : Type 0 where
+pub record IsComing (plan : RunPlan) (past : List Step) (step : Step) (rest : List Step) (stage : Stage) (more : List Stage) (p left : ℕ)
+    (st : NodeState) : Type 0 where
   pub session : st.session ≡ session_in plan
   pub node : p < plan.nodes
   pub places : StandsBefore plan past (step ∷ rest)

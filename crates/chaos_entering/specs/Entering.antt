@@ -2,17 +2,17 @@
 use Rattle.std.specs.Prelude.{◌≡◌, ℕ, ◌+◌, ◌≤◌, ◌/◌, ℤ, List, [], ◌∷◌, false, length, map, filter, replicate, vec_capacity}
 use Rattle.fd_words.specs.Lists.{list_at}
 use Rattle.fd_program.specs.Trace.{site_at}
-use Rattle.fd_program.specs.Uses.{is_index}
+use Rattle.fd_words.specs.Roles.{is_index}
 use Rattle.fd_program.specs.declared.checked.Checked.{Checked}
 use Rattle.fd_program.specs.declared.reference.Reference.{Reference}
-use Rattle.chaos_phases.specs.declared.loop_phase.LoopPhase.{LoopPhase}
-use Rattle.chaos_phases.specs.declared.loop_phase.LoopPhase.TheVariants as phase
-use Rattle.chaos_run.specs.Phases.{is_sent, arrays_in}
-use Rattle.chaos_run.specs.Picks.{picked}
-use Rattle.chaos_run.specs.declared.stage.Stage.{Stage}
-use Rattle.chaos_run.specs.declared.stage.Stage.TheVariants as stage
-use Rattle.chaos_places.specs.Letters.{letter_in, number_in, wanted_in}
-use Rattle.chaos_places.specs.declared.stages.Naming.{Naming}
+use Rattle.plan_loop.specs.declared.loop_phase.LoopPhase.{LoopPhase}
+use Rattle.plan_loop.specs.declared.loop_phase.LoopPhase.TheVariants as phase
+use Rattle.plan_run.specs.Phases.{is_sent, arrays_in}
+use Rattle.plan_run.specs.Picks.{picked}
+use Rattle.plan_run.specs.declared.stage.Stage.{Stage}
+use Rattle.plan_run.specs.declared.stage.Stage.TheVariants as stage
+use Rattle.plan_walk.specs.Letters.{letter_in, number_in, wanted_in}
+use Rattle.plan_walk.specs.declared.stages.Naming.{Naming}
 use Rattle.chaos_entering.specs.declared.activity.Activity.{Activity}
 use Rattle.chaos_entering.specs.declared.entered.Entered.{Entered}
 use Rattle.chaos_entering.specs.declared.entered.Posted.{Posted}
@@ -88,7 +88,8 @@ abbrev pub naming_in : Checked → Stage → ℕ → ℕ → Naming
 naming_in c stage execution site = record { stage = stage; execution = execution; site = site; group = group_in c stage site }
 
 -- a stage in which a node sends these lists, its own among them
-pub record IsStaged (n : Naming) (me nodes : ℕ) (activity : Activity) (lists : List (List ℤ)) (counts : List ℕ) (left : ℕ) (e : Entered) : Type 0 where
+pub record IsStaged (n : Naming) (me nodes : ℕ) (activity : Activity) (lists : List (List ℤ)) (counts : List ℕ) (left : ℕ)
+    (e : Entered) : Type 0 where
   pub at : e.at ≡ record { execution = n.execution; site = n.site; activity = activity; own = list_at lists me; sizes = map length lists }
   pub begins : e.begins ≡ false
   pub left_is : e.left ≡ left

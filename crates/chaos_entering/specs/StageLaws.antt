@@ -1,5 +1,6 @@
 -- A phase that is entered with the right lists and lengths is the one that comes.
-use Rattle.std.specs.Prelude.{◌≡◌, refl, ℕ, zero, suc, ◌+◌, ◌<◌, ◌≤◌, ◌^◌, ℤ, Bool, true, false, List, [], ◌∷◌, length, map, is_some, slice_get, unwrap_or, vec_capacity}
+use Rattle.std.specs.Prelude.{◌≡◌, refl, ℕ, zero, suc, ◌+◌, ◌<◌, ◌≤◌, ◌^◌, ℤ, Bool, true, false, List, [], ◌∷◌, length, map, is_some}
+use Rattle.std.specs.Prelude.{slice_get, unwrap_or, vec_capacity}
 use Rattle.std.specs.List.{range_with_len}
 use Rattle.std.proofs.Common.{ap, sym, subst, ◌∙◌, arith, add-one}
 use Rattle.bsp_core.specs.Views.{Ascends, Face, nodes_in}
@@ -11,17 +12,17 @@ use Rattle.fd_program.specs.declared.trace.Step.{Step}
 use Rattle.chaos_dist.specs.Counting.{below}
 use Rattle.chaos_letter.specs.declared.letter.Letter.{Letter}
 use Rattle.chaos_letter.specs.declared.wanted.Wanted.{Wanted}
-use Rattle.chaos_phases.specs.declared.loop_phase.LoopPhase.TheVariants as phase
-use Rattle.chaos_run.specs.Phases.{Phase, cut_phases, group_of, is_sent, numbers_at, site_of}
-use Rattle.chaos_run.specs.Picks.{picked, picked_ascends}
-use Rattle.chaos_run.specs.RowLaws.{not_sent}
-use Rattle.chaos_run.specs.Rows.{RunPlan, face_left, run_in, scene_in}
-use Rattle.chaos_run.specs.declared.stage.Stage.{Stage}
-use Rattle.chaos_run.specs.declared.stage.Stage.TheVariants as stage
-use Rattle.chaos_places.specs.LetterLaws.{AreCounted, AreSent, all_lists_are_sent, naming_at, rows_are_made}
-use Rattle.chaos_places.specs.Letters.{letter_in, number_in, wanted_in}
-use Rattle.chaos_places.specs.Places.{left_in, present_phase, whole_in, whole_left}
-use Rattle.chaos_places.specs.declared.stages.Naming.{Naming}
+use Rattle.plan_loop.specs.declared.loop_phase.LoopPhase.TheVariants as phase
+use Rattle.plan_run.specs.Phases.{Phase, cut_phases, group_of, is_sent, numbers_at, site_of}
+use Rattle.plan_run.specs.Picks.{picked, picked_ascends}
+use Rattle.plan_run.specs.RowLaws.{not_sent}
+use Rattle.plan_run.specs.Rows.{RunPlan, face_left, run_in, scene_in}
+use Rattle.plan_run.specs.declared.stage.Stage.{Stage}
+use Rattle.plan_run.specs.declared.stage.Stage.TheVariants as stage
+use Rattle.plan_walk.specs.LetterLaws.{AreCounted, AreSent, all_lists_are_sent, naming_at, rows_are_made}
+use Rattle.plan_walk.specs.Letters.{letter_in, number_in, wanted_in}
+use Rattle.plan_walk.specs.Places.{left_in, present_phase, whole_in, whole_left}
+use Rattle.plan_walk.specs.declared.stages.Naming.{Naming}
 use Rattle.chaos_entering.specs.Coming.{CanStand, IsComing, IsSoundActivity, entered_state, face_of}
 use Rattle.chaos_entering.specs.Entering.{IsStaged, group_in, naming_in}
 use Rattle.chaos_entering.specs.Standing.{HasSizes, IsInStep, session_in}
@@ -33,7 +34,8 @@ use Rattle.chaos_entering.specs.declared.entered.Entered.{Entered}
 -- ---- statements
 
 -- a phase entered as the stage of the step: its face, where the node is in it, and the lengths of its lists
-pub record IsStage (plan : RunPlan) (past : List Step) (step : Step) (rest : List Step) (stage : Stage) (more : List Stage) (p : ℕ) (activity : Activity) (e : Entered) (st : NodeState) : Type 0 where
+pub record IsStage (plan : RunPlan) (past : List Step) (step : Step) (rest : List Step) (stage : Stage) (more : List Stage) (p : ℕ)
+    (activity : Activity) (e : Entered) (st : NodeState) : Type 0 where
   pub activity_is : e.at.activity ≡ activity
   pub site_is : e.at.site ≡ site_of step
   pub kept : (entered_state st e).holdings ≡ st.holdings
@@ -45,7 +47,8 @@ pub record IsStage (plan : RunPlan) (past : List Step) (step : Step) (rest : Lis
 -- ---- cases
 
 -- cut or not, the first phase stays
-face_cut : (s : Scene) (c : Checked) (f : Phase) (fs : List Phase) (past : List Step) (cut : Bool) (p : ℕ) → face_left s (cut_phases c (f ∷ fs) past cut) p ≡ face_left s (f ∷ fs) p
+face_cut : (s : Scene) (c : Checked) (f : Phase) (fs : List Phase) (past : List Step) (cut : Bool) (p : ℕ)
+    → face_left s (cut_phases c (f ∷ fs) past cut) p ≡ face_left s (f ∷ fs) p
 face_cut s c f fs past false p = refl
 face_cut s c f fs past true p = refl
 
@@ -97,13 +100,20 @@ abbrev standing_at : NodeState → At → NodeState
 standing_at st at = record st { at = at }
 
 abbrev at_in : Naming → Activity → List (List ℤ) → ℕ → At
-at_in n activity lists me = record { execution = n.execution; site = n.site; activity = activity; own = list_at lists me; sizes = map length lists }
+at_in n activity lists me = record {
+  execution = n.execution;
+  site = n.site;
+  activity = activity;
+  own = list_at lists me;
+  sizes = map length lists;
+}
 
 abbrev state_if : NodeState → Entered → Bool → NodeState
 state_if st e b = entered_state st (record e { begins = b })
 
 -- only its place is new
-stands_at : (n : Naming) (me nodes : ℕ) (activity : Activity) (lists : List (List ℤ)) (counts : List ℕ) (left : ℕ) (e : Entered) (st : NodeState)
+stands_at : (n : Naming) (me nodes : ℕ) (activity : Activity) (lists : List (List ℤ)) (counts : List ℕ) (left : ℕ) (e : Entered)
+    (st : NodeState)
     → IsStaged n me nodes activity lists counts left e → entered_state st e ≡ standing_at st (at_in n activity lists me)
 stands_at n me nodes activity lists counts left e st h = ap (state_if st e) h.begins ∙ ap (standing_at st) h.at
 
@@ -117,7 +127,8 @@ face_staged : (n : Naming) (me nodes : ℕ) (activity : Activity) (lists : List 
 face_staged n me nodes activity lists counts left e h =
     ap (λ left. face_with me nodes left e.out.items e.due.items e.got.items) h.left_is
     ∙ ap (λ out. face_with me nodes left out e.due.items e.got.items) h.posted.out
-    ∙ ap (λ due. face_with me nodes left (picked (λ q. letter_in n (list_at lists q)) (λ q. is_sent n.stage me q) 0 nodes) due e.got.items) h.posted.due
+    ∙ ap (λ due. face_with me nodes left (picked (λ q. letter_in n (list_at lists q)) (λ q. is_sent n.stage me q) 0 nodes) due
+    e.got.items) h.posted.due
     ∙ ap (face_with me nodes left (picked (λ q. letter_in n (list_at lists q)) (λ q. is_sent n.stage me q) 0 nodes)
     (picked (λ q. wanted_in n (number_in counts q)) (λ q. is_sent n.stage q me) 0 nodes)) h.posted.got
 
@@ -127,11 +138,13 @@ row_by s p lists counts n left =
     (picked (λ q. wanted_in n (number_in counts q)) (λ q. is_sent n.stage q p) 0 s.nodes) []
 
 -- it is the face of the phase
-staged_face : (s : Scene) (f : Phase) (later : List Phase) (past : List Step) (cut : Bool) (n : Naming) (p : ℕ) (activity : Activity) (lists : List (List ℤ)) (counts : List ℕ) (left : ℕ) (e : Entered)
+staged_face : (s : Scene) (f : Phase) (later : List Phase) (past : List Step) (cut : Bool) (n : Naming) (p : ℕ) (activity : Activity)
+    (lists : List (List ℤ)) (counts : List ℕ) (left : ℕ) (e : Entered)
     → naming_at s f ≡ n → left ≡ f.left → AreSent s f p lists → AreCounted s f p counts → IsStaged n p s.nodes activity lists counts left e
     → face_of p s.nodes e ≡ face_left s (cut_phases s.checked (f ∷ later) past cut) p
 staged_face s f later past cut n p activity lists counts left e name many sent counted staged =
-    face_staged n p s.nodes activity lists counts left e staged ∙ ap (row_by s p lists counts n) many ∙ ap (λ m. row_by s p lists counts m f.left) (sym name)
+    face_staged n p s.nodes activity lists counts left e staged ∙ ap (row_by s p lists counts n) many
+    ∙ ap (λ m. row_by s p lists counts m f.left) (sym name)
     ∙ sym (rows_are_made s f later p lists counts sent counted) ∙ sym (face_cut s s.checked f later past cut p)
 
 abbrev with_group : Naming → ℕ → Naming
@@ -139,7 +152,8 @@ with_group n g = record n { group = g }
 
 -- ---- what holds
 
-pub stage_comes : (plan : RunPlan) (past : List Step) (step : Step) (rest : List Step) (stage : Stage) (more : List Stage) (p left : ℕ) (st : NodeState)
+pub stage_comes : (plan : RunPlan) (past : List Step) (step : Step) (rest : List Step) (stage : Stage) (more : List Stage) (p left : ℕ)
+    (st : NodeState)
     (activity : Activity) (lists : List (List ℤ)) (counts : List ℕ) (e : Entered)
     → IsComing plan past step rest stage more p left st
     → lists ≡ map (λ q. numbers_at (scene_in plan) past step stage p q) (below plan.nodes)
@@ -155,14 +169,16 @@ stage_comes plan past step rest stage more p left st activity lists counts e com
     let stood : entered_state st e ≡ standing_at st at = stands_at named p plan.nodes activity lists counts left e st staged in
     let name : naming_at s f ≡ named = ap (λ g. with_group named g) (sym (same_group plan.checked step stage)) in
     let own : list_at lists p ≡ x p = ap (λ l. list_at l p) lists_are ∙ map_get x p 0 plan.nodes come.node ∙ ap x (from_nought p) in
-    let sizes : map length lists ≡ map (λ q. length (x q)) (below plan.nodes) = ap (map length) lists_are ∙ map_length x (below plan.nodes) in
+    let sizes : map length lists ≡ map (λ q. length (x q)) (below plan.nodes) = ap (map length) lists_are
+    ∙ map_length x (below plan.nodes) in
     let sent = all_lists_are_sent s f p lists lists_are in
     let many : left ≡ f.left = come.left_is ∙ sym (add-one (whole_left plan past step rest more)) in
     record {
       activity_is = ap (λ (a : At). a.activity) staged.at;
       site_is = ap (λ (a : At). a.site) staged.at;
       kept = ap (λ (t : NodeState). t.holdings) stood;
-      face = staged_face s f (whole_in plan past step rest more) (completed_of (run_in plan)) (is_some (run_in plan).refused) named p activity lists counts left e
+      face = staged_face s f (whole_in plan past step rest more) (completed_of (run_in plan)) (is_some (run_in plan).refused) named p
+          activity lists counts left e
           name many sent counted staged;
       session = ap (λ (t : NodeState). t.session) stood ∙ come.session;
       in_step = subst (IsInStep plan (left_in plan past step rest (stage ∷ more)) past step rest stage more p) (sym stood) (record {
@@ -181,9 +197,11 @@ pub staged_stands : (n : Naming) (me nodes : ℕ) (activity : Activity) (lists :
 staged_stands n me nodes activity lists counts left e small sound h = record {
   left = subst (λ k. k < 2 ^ 31) (sym h.left_is) small;
   out = subst (λ (l : List (ℕ × Letter)). Ascends me nodes 0 (nodes_in l)) (sym h.posted.out)
-      (picked_ascends (λ q. letter_in n (list_at lists q)) (λ q. is_sent n.stage me q) me nodes 0 nodes (all_below nodes) (not_sent n.stage me));
+      (picked_ascends (λ q. letter_in n (list_at lists q)) (λ q. is_sent n.stage me q) me nodes 0 nodes (all_below nodes)
+      (not_sent n.stage me));
   due = subst (λ (l : List (ℕ × Wanted)). Ascends me nodes 0 (nodes_in l)) (sym h.posted.due)
-      (picked_ascends (λ q. wanted_in n (number_in counts q)) (λ q. is_sent n.stage q me) me nodes 0 nodes (all_below nodes) (not_sent n.stage me));
+      (picked_ascends (λ q. wanted_in n (number_in counts q)) (λ q. is_sent n.stage q me) me nodes 0 nodes (all_below nodes)
+      (not_sent n.stage me));
   room = with_none e.got.items (length e.due.items) (vec_capacity e.got) h.posted.got h.posted.room;
   number = λ begins. not_both e.begins begins h.begins;
   sound = subst IsSoundActivity (sym (ap (λ (a : At). a.activity) h.at)) sound;

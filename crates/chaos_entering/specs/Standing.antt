@@ -13,14 +13,15 @@ use Rattle.fd_program.specs.declared.array.OutputName.{OutputName}
 use Rattle.fd_program.specs.declared.trace.LoopTurn.{LoopTurn}
 use Rattle.fd_program.specs.declared.trace.Step.{Step}
 use Rattle.fd_program.specs.declared.trace.Step.TheVariants.{Distribute, Print, Forall}
-use Rattle.chaos_phases.specs.declared.loop_phase.LoopPhase.{LoopPhase}
-use Rattle.chaos_phases.specs.declared.loop_phase.LoopPhase.TheVariants as phase
-use Rattle.chaos_run.specs.Held.{EachLoop, Held, KeepsAtEnd, KeepsInStep, KeepsLoop, Stands, inspected_at, lines_of, refused_at, text_at, text_on}
-use Rattle.chaos_run.specs.Phases.{Phase, numbers_at, site_of}
-use Rattle.chaos_run.specs.Rows.{RunPlan, phases_in, run_in, scene_in}
+use Rattle.plan_loop.specs.declared.loop_phase.LoopPhase.{LoopPhase}
+use Rattle.plan_loop.specs.declared.loop_phase.LoopPhase.TheVariants as phase
+use Rattle.plan_run.specs.Held.{EachLoop, Held, KeepsAtEnd, KeepsInStep, KeepsLoop, Stands, inspected_at, lines_of, refused_at, text_at}
+use Rattle.plan_run.specs.Held.{text_on}
+use Rattle.plan_run.specs.Phases.{Phase, numbers_at, site_of}
+use Rattle.plan_run.specs.Rows.{RunPlan, phases_in, run_in, scene_in}
 use Rattle.chaos_sched.specs.declared.prepared.Prepared.{Prepared}
-use Rattle.chaos_run.specs.declared.stage.Stage.{Stage}
-use Rattle.chaos_run.specs.declared.stage.Stage.TheVariants as stage
+use Rattle.plan_run.specs.declared.stage.Stage.{Stage}
+use Rattle.plan_run.specs.declared.stage.Stage.TheVariants as stage
 use Rattle.chaos_hash.specs.Stamps.{Stamps}
 use Rattle.chaos_inspect.specs.Inspecting.{IsInspecting, phase_of}
 use Rattle.chaos_inspect.specs.declared.inspection.Inspection.{Inspection}
@@ -30,12 +31,13 @@ use Rattle.chaos_moving.specs.Stages.{left_in as stages_left}
 use Rattle.chaos_moving.specs.declared.moving.Moving.{Moving}
 use Rattle.chaos_executing.specs.InRun.{CanExecute, IsExecuting}
 use Rattle.chaos_executing.specs.declared.executing.Executing.{Executing}
-use Rattle.chaos_places.specs.Places.{StandsBefore, left_in, outputs_left}
+use Rattle.plan_walk.specs.Places.{StandsBefore, left_in, outputs_left}
 use Rattle.chaos_entering.specs.Behind.{stages_behind}
 use Rattle.chaos_holdings.specs.Keeping.{prepared_in}
 use Rattle.chaos_entering.specs.State.{NodeState, held_of}
 use Rattle.chaos_entering.specs.declared.activity.Activity.{Activity}
-use Rattle.chaos_entering.specs.declared.activity.Activity.TheVariants.{Printing, Output, Moving as Moves, Inspecting, Gathering, Scattering, Ended}
+use Rattle.chaos_entering.specs.declared.activity.Activity.TheVariants.{Printing, Output, Moving as Moves, Inspecting, Gathering}
+use Rattle.chaos_entering.specs.declared.activity.Activity.TheVariants.{Scattering, Ended}
 use Rattle.chaos_holdings.specs.declared.session.Session.{Session}
 
 abbrev pub session_in : RunPlan → Session
@@ -65,7 +67,8 @@ pub record Knows (s : Scene) (run : Run) (past : List Step) (step : Step) (stage
   pub sized : length v.tables ≡ length s.checked.layouts
 
 -- the node is in this stage of this step, and these stages follow
-pub record IsInStep (plan : RunPlan) (phases : List Phase) (past : List Step) (step : Step) (rest : List Step) (stage : Stage) (more : List Stage) (p : ℕ) (st : NodeState) : Type 0 where
+pub record IsInStep (plan : RunPlan) (phases : List Phase) (past : List Step) (step : Step) (rest : List Step) (stage : Stage)
+    (more : List Stage) (p : ℕ) (st : NodeState) : Type 0 where
   pub places : StandsBefore plan past (step ∷ rest)
   pub phases_are : phases ≡ left_in plan past step rest (stage ∷ more)
   pub execution : st.at.execution ≡ length past
@@ -84,13 +87,15 @@ pub record IsPrint (plan : RunPlan) (phases : List Phase) (p : ℕ) (st : NodeSt
   pub in_step : IsInStep plan phases past (Print st.at.site) rest stage.Print [] p st
 
 -- a move on p, where this stage and then these are left
-pub record GoesOnMoving (plan : RunPlan) (past : List Step) (d : ℕ) (form : StepForm) (stage : Stage) (more : List Stage) (p : ℕ) (m : Moving) : Type 0 where
+pub record GoesOnMoving (plan : RunPlan) (past : List Step) (d : ℕ) (form : StepForm) (stage : Stage) (more : List Stage) (p : ℕ)
+    (m : Moving) : Type 0 where
   pub left : stages_left m.stage ≡ stage ∷ more
   pub repeats : is_repeat plan.checked past d form ≡ false
   pub decomposition : m.share.decomposition ≡ d
   pub node : m.share.me ≡ p
   pub by : m.form ≡ form
-  pub moving : IsMoving m (scene_in plan) (owners_at (scene_in plan) past) (store_at (scene_in plan) past) (owners_after (scene_in plan) past d form)
+  pub moving : IsMoving m (scene_in plan) (owners_at (scene_in plan) past) (store_at (scene_in plan) past)
+      (owners_after (scene_in plan) past d form)
 
 -- the move of a decomposition
 pub record IsMove (plan : RunPlan) (phases : List Phase) (p : ℕ) (st : NodeState) (m : Moving) : Type 0 where
@@ -104,7 +109,8 @@ pub record IsMove (plan : RunPlan) (phases : List Phase) (p : ℕ) (st : NodeSta
   pub goes_on : GoesOnMoving plan past st.at.site form stage more p m
 
 -- an inspection on p that has come to this phase
-pub record GoesOnInspecting (plan : RunPlan) (past : List Step) (site : ℕ) (turn : LoopTurn) (l : LoopPhase) (p : ℕ) (tables : List Stamps) (i : Inspection) : Type 0 where
+pub record GoesOnInspecting (plan : RunPlan) (past : List Step) (site : ℕ) (turn : LoopTurn) (l : LoopPhase) (p : ℕ)
+    (tables : List Stamps) (i : Inspection) : Type 0 where
   pub phase_is : phase_of i.stage ≡ Some l
   pub some : is_empty_turn turn ≡ false
   pub inspects : inspects_at plan.checked past site turn ≡ true
@@ -118,7 +124,8 @@ pub record IsInspection (plan : RunPlan) (phases : List Phase) (p : ℕ) (st : N
   pub rest : List Step
   pub turn : LoopTurn
   pub present : LoopPhase
-  pub in_step : IsInStep plan phases past (Forall st.at.site turn) rest (stage.InLoop present) (stages_behind (loop_at (scene_in plan) past st.at.site turn) present) p st
+  pub in_step : IsInStep plan phases past (Forall st.at.site turn) rest (stage.InLoop present)
+      (stages_behind (loop_at (scene_in plan) past st.at.site turn) present) p st
   pub sizes : HasSizes plan past (Forall st.at.site turn) (stage.InLoop present) p st
   pub goes_on : GoesOnInspecting plan past st.at.site turn present p st.holdings.tables i
 
@@ -150,7 +157,8 @@ pub record KnowsBehind (s : Scene) (run : Run) (past : List Step) (j p : ℕ) (v
   pub stands : Stands s past p v
   pub keeps : EachLoop s.checked (KeepsAtEnd s run past p v.tables) v.kept
   pub inspected : v.inspected ≡ map pos (inspecting_of s.checked (executed_of run))
-  pub text : v.text ≡ text_on p (lines_of s past ++ refusal_text s.checked run.refused ++ flat_map (output_line s.checked run.last) (take j s.checked.outputs))
+  pub text : v.text ≡ text_on p (lines_of s past ++ refusal_text s.checked run.refused ++ flat_map (output_line s.checked run.last)
+      (take j s.checked.outputs))
   pub refused : v.refused ≡ run.refused
   pub last : run.last ≡ store_at s past
 

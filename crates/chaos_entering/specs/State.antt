@@ -1,6 +1,6 @@
 -- What a node knows beside its face.
 use Rattle.std.specs.Prelude.{ℕ, ℤ, List, []}
-use Rattle.chaos_run.specs.Held.{Held, no_hand}
+use Rattle.plan_run.specs.Held.{Held, no_hand}
 use Rattle.chaos_entering.specs.declared.activity.At.{At}
 use Rattle.chaos_holdings.specs.declared.holdings.Holdings.{Holdings}
 use Rattle.chaos_holdings.specs.declared.session.NodeEnd.{NodeEnd}

@@ -2,9 +2,9 @@ ghost use Rattle.std.specs.Prelude.{◌≡◌, ℕ, ℤ, ◌+◌, ◌≤◌, ◌
 ghost use Rattle.fd_program.specs.Reports.{completed_of};
 ghost use Rattle.fd_program.specs.declared.trace.Step.{Step as AStep};
 ghost use Rattle.fd_program.specs.declared.trace.Step.TheVariants.{Print};
-ghost use Rattle.chaos_run.specs.Rows.{IsRunPlan, RunPlan, run_in};
-ghost use Rattle.chaos_run.specs.declared.stage.Stage.TheVariants as stage;
-ghost use Rattle.chaos_places.specs.Places.{left_in, outputs_left};
+ghost use Rattle.plan_run.specs.Rows.{IsRunPlan, RunPlan, run_in};
+ghost use Rattle.plan_run.specs.declared.stage.Stage.TheVariants as stage;
+ghost use Rattle.plan_walk.specs.Places.{left_in, outputs_left};
 ghost use Rattle.chaos_entering.specs.Coming.{CanStand, IsBehindSteps, IsComing, IsRight};
 ghost use Rattle.chaos_entering.specs.Entering.{ArePosted, IsRows};
 ghost use Rattle.chaos_print.specs.Printing.{rows_held};
@@ -15,10 +15,10 @@ ghost use Rattle.chaos_entering.specs.declared.activity.Activity.TheVariants.{En
 use crate::activity::{Activity, At};
 use crate::entered::{Entered, Posted, entered_by, post};
 use chaos_holdings::Session;
-use chaos_places::Naming;
 use chaos_print::print_rows;
-use chaos_run::Stage;
 use fd_words::{Memory, NumberLists, Numbers};
+use plan_run::Stage;
+use plan_walk::Naming;
 use sqlite_items::Items;
 use std::alloc::Global;
 use std::collections::VecDeque;
@@ -106,7 +106,8 @@ pub fn enter_print(
     requires left { left < 2 ^ 31 }
     ensures made { IfOk result (CanStand me session.now.nodes) }
     ensures falls { IfOk result (λ e. e.left ≤ left) }
-    ensures right { IfOk result (λ e. (plan : RunPlan) (past rest : List AStep) (st : NodeState) → IsRunPlan plan → session.now ≡ session_in plan
+    ensures right { IfOk result (λ e. (plan : RunPlan) (past rest : List AStep) (st : NodeState) → IsRunPlan plan
+        → session.now ≡ session_in plan
         → execution ≡ length past → IsComing plan past (Print array) rest stage.Print [] me left st
         → elements.now ≡ st.holdings.elements → parts.now ≡ st.holdings.parts
         → IsRight plan (left_in plan past (Print array) rest (stage.Print ∷ [])) me e st) }
@@ -141,7 +142,8 @@ pub fn enter_output(
     requires left { left < 2 ^ 31 }
     ensures made { IfOk result (CanStand me session.now.nodes) }
     ensures falls { IfOk result (λ e. e.left ≤ left) }
-    ensures right { IfOk result (λ e. (plan : RunPlan) (st : NodeState) → IsRunPlan plan → session.now ≡ session_in plan → IsBehindSteps plan number me left st
+    ensures right { IfOk result (λ e. (plan : RunPlan) (st : NodeState) → IsRunPlan plan → session.now ≡ session_in plan
+        → IsBehindSteps plan number me left st
         → elements.now ≡ st.holdings.elements → parts.now ≡ st.holdings.parts
         → IsRight plan (outputs_left plan (completed_of (run_in plan)) number (drop number plan.checked.outputs)) me e st) }
 {

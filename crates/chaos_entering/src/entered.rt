@@ -3,8 +3,8 @@ ghost use Rattle.chaos_entering.specs.Entering.{ArePosted, phase_with};
 
 use crate::activity::{Activity, At};
 use chaos_letter::{Letter, Wanted};
-use chaos_places::{Naming, sends, takes};
 use fd_words::{Memory, NumberLists, Numbers};
+use plan_walk::{Naming, sends, takes};
 use sqlite_items::Items;
 use std::alloc::Global;
 use std::collections::VecDeque;

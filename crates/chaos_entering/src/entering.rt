@@ -1,9 +1,9 @@
 ghost use Rattle.std.specs.Prelude.{◌≡◌, ◌≤◌, ◌<◌, ◌^◌, ◌∷◌, List, length, true, false, IfOk};
 ghost use Rattle.fd_program.specs.declared.trace.Step.{Step as AStep};
 ghost use Rattle.chaos_begin.specs.Begins.{BeginsInspection, BeginsLoop, IsBegun, IsFit, IsPlain, IsSound};
-ghost use Rattle.chaos_run.specs.Phases.{site_of as the_site};
-ghost use Rattle.chaos_run.specs.Rows.{IsRunPlan, RunPlan, scene_in};
-ghost use Rattle.chaos_places.specs.Places.{left_from};
+ghost use Rattle.plan_run.specs.Phases.{site_of as the_site};
+ghost use Rattle.plan_run.specs.Rows.{IsRunPlan, RunPlan, scene_in};
+ghost use Rattle.plan_walk.specs.Places.{left_from};
 ghost use Rattle.chaos_entering.specs.Coming.{CanStand, IsHere, IsNext, IsRight};
 ghost use Rattle.chaos_entering.specs.Standing.{session_in};
 ghost use Rattle.chaos_entering.specs.State.{NodeState, held_of};
@@ -12,12 +12,12 @@ use crate::enter_prints::{enter_end, enter_output, enter_print};
 use crate::entered::Entered;
 use crate::found::{Found, find};
 use crate::loops::{enter_gather, enter_inspection, enter_move};
-use chaos_asking::PageSet;
 use chaos_begin::{Begun, Between};
 use chaos_holdings::{Session, kept_of};
 use chaos_inspect::Inspection;
 use fd_program::LoopFacts;
 use fd_words::Memory;
+use inspect_places::PageSet;
 use std::alloc::Global;
 
 /// A FORALL is inspected from here on.
@@ -36,8 +36,10 @@ fn begin_inspection(
     requires left { left < 2 ^ 31 }
     ensures made { IfOk result (CanStand between.now.me session.now.nodes) }
     ensures falls { IfOk result (λ e. e.left ≤ left) }
-    ensures right { IfOk result (λ e. (plan : RunPlan) (past rest : List AStep) (step : AStep) (st : NodeState) → IsRunPlan plan → session.now ≡ session_in plan → number ≡ length past → site ≡ the_site step
-        → IsHere plan between.now (held_of st) → pages.now ≡ st.holdings.pages → IsNext plan past (step ∷ rest) between.now.me left st → BeginsInspection (scene_in plan) past step facts
+    ensures right { IfOk result (λ e. (plan : RunPlan) (past rest : List AStep) (step : AStep) (st : NodeState) → IsRunPlan plan
+        → session.now ≡ session_in plan → number ≡ length past → site ≡ the_site step
+        → IsHere plan between.now (held_of st) → pages.now ≡ st.holdings.pages → IsNext plan past (step ∷ rest) between.now.me left st
+        → BeginsInspection (scene_in plan) past step facts
         → IsRight plan (left_from plan past (step ∷ rest)) between.now.me e st) }
 {
     let inspection = Inspection::begin(alloc, facts, between.me)?;
@@ -90,8 +92,10 @@ fn execute_kept(
     requires left { left < 2 ^ 31 }
     ensures made { IfOk result (CanStand between.now.me session.now.nodes) }
     ensures falls { IfOk result (λ e. e.left ≤ left) }
-    ensures right { IfOk result (λ e. (plan : RunPlan) (past rest : List AStep) (step : AStep) (st : NodeState) → IsRunPlan plan → session.now ≡ session_in plan → number ≡ length past → site ≡ the_site step
-        → IsHere plan between.now (held_of st) → IsNext plan past (step ∷ rest) between.now.me left st → BeginsLoop (scene_in plan) past step false
+    ensures right { IfOk result (λ e. (plan : RunPlan) (past rest : List AStep) (step : AStep) (st : NodeState) → IsRunPlan plan
+        → session.now ≡ session_in plan → number ≡ length past → site ≡ the_site step
+        → IsHere plan between.now (held_of st) → IsNext plan past (step ∷ rest) between.now.me left st
+        → BeginsLoop (scene_in plan) past step false
         → IsRight plan (left_from plan past (step ∷ rest)) between.now.me e st) }
 {
     match kept_of(between.kept, site) {
@@ -125,8 +129,10 @@ fn enter_step(
     requires left { left < 2 ^ 31 }
     ensures made { IfOk result (CanStand between.now.me session.now.nodes) }
     ensures falls { IfOk result (λ e. e.left ≤ left) }
-    ensures right { IfOk result (λ e. (plan : RunPlan) (past rest : List AStep) (step : AStep) (st : NodeState) → IsRunPlan plan → session.now ≡ session_in plan → number ≡ length past → site ≡ the_site step
-        → IsHere plan between.now (held_of st) → pages.now ≡ st.holdings.pages → IsNext plan past (step ∷ rest) between.now.me left st → IsBegun (scene_in plan) past step between.now.me begun
+    ensures right { IfOk result (λ e. (plan : RunPlan) (past rest : List AStep) (step : AStep) (st : NodeState) → IsRunPlan plan
+        → session.now ≡ session_in plan → number ≡ length past → site ≡ the_site step
+        → IsHere plan between.now (held_of st) → pages.now ≡ st.holdings.pages → IsNext plan past (step ∷ rest) between.now.me left st
+        → IsBegun (scene_in plan) past step between.now.me begun
         → IsRight plan (left_from plan past (step ∷ rest)) between.now.me e st) }
 {
     let me = between.me;
@@ -162,7 +168,8 @@ pub fn enter_next(
     requires left { left < 2 ^ 31 }
     ensures made { IfOk result (CanStand between.now.me session.now.nodes) }
     ensures falls { IfOk result (λ e. e.left ≤ left) }
-    ensures right { IfOk result (λ e. (plan : RunPlan) (past rest : List AStep) (st : NodeState) → IsRunPlan plan → session.now ≡ session_in plan → from ≡ length past
+    ensures right { IfOk result (λ e. (plan : RunPlan) (past rest : List AStep) (st : NodeState) → IsRunPlan plan
+        → session.now ≡ session_in plan → from ≡ length past
         → IsHere plan between.now (held_of st) → pages.now ≡ st.holdings.pages → IsNext plan past rest between.now.me left st
         → IsRight plan (left_from plan past rest) between.now.me e st) }
 {

@@ -2,9 +2,9 @@ ghost use Rattle.std.specs.Prelude.{◌≡◌, List, length, IfOk};
 ghost use Rattle.fd_program.specs.Trace.{trace_of};
 ghost use Rattle.fd_program.specs.declared.trace.Step.{Step as AStep};
 ghost use Rattle.chaos_begin.specs.Begins.{IsSound};
-ghost use Rattle.chaos_run.specs.Held.{Held};
-ghost use Rattle.chaos_run.specs.Phases.{site_of as the_site};
-ghost use Rattle.chaos_run.specs.Rows.{IsRunPlan, RunPlan};
+ghost use Rattle.plan_run.specs.Held.{Held};
+ghost use Rattle.plan_run.specs.Phases.{site_of as the_site};
+ghost use Rattle.plan_run.specs.Rows.{IsRunPlan, RunPlan};
 ghost use Rattle.chaos_entering.specs.Coming.{IsFound, IsHere, IsPlainFound};
 ghost use Rattle.chaos_entering.specs.Standing.{HasCome};
 
@@ -44,7 +44,8 @@ fn site_of(step: &Step) -> u32
 pub fn find(alloc: Global, between: &Between, trace: &Trace, from: u64) -> Result<Found, Memory>
     requires { IsSound between.now }
     ensures plain { IfOk result (IsPlainFound between.now) }
-    ensures found { IfOk result (λ f. (plan : RunPlan) (past rest : List AStep) (v : Held) → IsRunPlan plan → trace.now ≡ trace_of plan.checked → from ≡ length past
+    ensures found { IfOk result (λ f. (plan : RunPlan) (past rest : List AStep) (v : Held) → IsRunPlan plan
+        → trace.now ≡ trace_of plan.checked → from ≡ length past
         → IsHere plan between.now v → HasCome plan past rest between.now.me v → IsFound plan past rest between.now.me v f) }
 {
     let steps = trace.as_slice();

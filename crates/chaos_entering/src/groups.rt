@@ -1,13 +1,12 @@
 ghost use Rattle.std.specs.Prelude.{◌≡◌, ◌==◌, ◌+◌, ◌<◌, ◌^◌, length, count_by};
-ghost use Rattle.fd_program.specs.Uses.{is_index as is_index_role};
+ghost use Rattle.fd_words.specs.Roles.{is_index as is_index_role};
 ghost use Rattle.fd_program.specs.declared.array.ArrayFacts.{ArrayFacts as AnArray};
 ghost use Rattle.chaos_entering.specs.Entering.{group_in, group_in_loop, indexes_in};
-ghost use Rattle.chaos_run.specs.Phases.{arrays_in as the_arrays};
+ghost use Rattle.plan_run.specs.Phases.{arrays_in as the_arrays};
 
-use chaos_phases::LoopPhase;
-use chaos_run::Stage;
 use fd_program::{ArrayFacts, Checked, Reference};
-use fd_words::Role;
+use plan_loop::LoopPhase;
+use plan_run::Stage;
 
 /// How many of these arrays a decomposition has.
 fn those_of(arrays: &[ArrayFacts], decomposition: u32) -> usize
@@ -28,22 +27,11 @@ fn arrays_in(checked: &Checked, decomposition: u32) -> u64
     those_of(checked.arrays.as_slice(), decomposition) as u64
 }
 
-/// Whether a reference of this role is an index reference.
-fn is_index(role: Role) -> bool
-    ensures { result ≡ is_index_role role }
-{
-    match role {
-        Role::Index => true,
-        Role::Read => false,
-        Role::Target => false,
-    }
-}
-
 /// The numbers of an iteration with these references: its own, and one for each index reference.
 fn width_of(references: &[Reference]) -> usize
     ensures { result ≡ 1 + count_by (λ r. is_index_role r.role) references.now }
 {
-    1 + references.iter().filter(|r| is_index(r.role)).count()
+    1 + references.iter().filter(|r| r.role.is_index()).count()
 }
 
 /// The numbers of an iteration of a FORALL.

@@ -8,18 +8,17 @@ ghost use Rattle.fd_program.specs.declared.trace.Step.TheVariants.{Distribute, F
 ghost use Rattle.chaos_dist.specs.declared.step_form.StepForm.{StepForm as AForm};
 ghost use Rattle.chaos_executing.specs.InRun.{CanExecute, IsExecuting};
 ghost use Rattle.chaos_inspect.specs.Inspecting.{phase_of};
-ghost use Rattle.chaos_phases.specs.declared.loop_phase.LoopPhase.{LoopPhase as APhase};
-ghost use Rattle.chaos_reach.specs.Accepted.{IsAccepted};
-ghost use Rattle.chaos_phases.specs.declared.loop_phase.LoopPhase.TheVariants as phase;
-ghost use Rattle.chaos_places.specs.Places.{left_in};
-ghost use Rattle.chaos_run.specs.Rows.{IsRunPlan, RunPlan, scene_in};
-ghost use Rattle.chaos_run.specs.declared.stage.Stage.{Stage as AStage};
-ghost use Rattle.chaos_run.specs.declared.stage.Stage.TheVariants as stage;
+ghost use Rattle.plan_loop.specs.declared.loop_phase.LoopPhase.{LoopPhase as APhase};
+ghost use Rattle.inspect_uses.specs.Accepted.{IsAccepted};
+ghost use Rattle.plan_loop.specs.declared.loop_phase.LoopPhase.TheVariants as phase;
+ghost use Rattle.plan_walk.specs.Places.{left_in};
+ghost use Rattle.plan_run.specs.Rows.{IsRunPlan, RunPlan, scene_in};
+ghost use Rattle.plan_run.specs.declared.stage.Stage.{Stage as AStage};
+ghost use Rattle.plan_run.specs.declared.stage.Stage.TheVariants as stage;
 ghost use Rattle.chaos_entering.specs.Behind.{stages_behind};
 ghost use Rattle.chaos_entering.specs.Coming.{CanStand, IsComing, IsRight, KnowsLengths};
 ghost use Rattle.chaos_entering.specs.Entering.{ArePosted, naming_in};
 ghost use Rattle.chaos_entering.specs.Sending.{IsSomeOk, IsStagedBy, SendsInspecting, SendsMoving, SendsScattered};
-ghost use Rattle.chaos_entering.specs.declared.activity.Activity.TheVariants.{Moving as Moves, Inspecting, Scattering};
 ghost use Rattle.chaos_holdings.specs.Keeping.{prepared_in};
 ghost use Rattle.chaos_entering.specs.Standing.{GoesOnInspecting, GoesOnMoving, session_in};
 ghost use Rattle.chaos_entering.specs.State.{NodeState};
@@ -29,18 +28,18 @@ use crate::enter_prints::enter_end;
 use crate::entered::{Entered, Posted, entered_by, post};
 use crate::groups::group;
 use crate::sizes::{counts, own_of, sizes_of};
-use chaos_asking::PageSet;
 use chaos_executing::{
     Executing, gather_counts, gather_lists, letters_have_counts, scatter_counts, scatter_lists,
 };
 use chaos_holdings::Session;
 use chaos_inspect::Inspection;
 use chaos_moving::Moving;
-use chaos_phases::LoopPhase;
-use chaos_places::Naming;
-use chaos_run::Stage;
 use chaos_sched::Prepared;
 use fd_words::{Memory, NumberLists, Numbers};
+use inspect_places::PageSet;
+use plan_loop::LoopPhase;
+use plan_run::Stage;
+use plan_walk::Naming;
 use sqlite_items::Items;
 use std::alloc::Global;
 
@@ -95,6 +94,36 @@ fn stage_with(naming: Naming, activity: Activity, left: u32, sent: Staged) -> En
     entered_by(naming, activity, own, sizes, left, posted)
 }
 
+/// The stage with these letters, if there was memory for them.
+fn staged_by(
+    naming: Naming,
+    activity: Activity,
+    left: u32,
+    sent: Result<Staged, Memory>,
+) -> Result<Entered, Memory>
+    ensures { IfOk result (λ e. IsSomeOk sent (λ x. IsStagedBy naming activity left x e)) }
+{
+    match sent {
+        Ok(sent) => Ok(stage_with(naming, activity, left, sent)),
+        Err(Memory) => without(activity),
+    }
+}
+
+fn without(_activity: Activity) -> Result<Entered, Memory>
+    ensures { IfOk result (λ e. ⊥) }
+{
+    Err(Memory)
+}
+
+/// Nothing more of an activity is due.
+fn is_over(alloc: Global, execution: u64, _activity: Activity) -> Result<Entered, Memory>
+    ensures left { IfOk result (λ e. e.left ≡ 0) }
+    ensures begins { IfOk result (λ e. e.begins ≡ false) }
+    ensures stands { IfOk result (λ e. (me nodes : ℕ) → CanStand me nodes e) }
+{
+    Ok(enter_end(alloc, execution))
+}
+
 /// The next stage of a move; `sizes` has the lengths of the lists that were sent in the stage before.
 pub fn enter_move(
     alloc: Global,
@@ -108,7 +137,8 @@ pub fn enter_move(
     requires left { left < 2 ^ 31 }
     ensures made { IfOk result (CanStand me session.now.nodes) }
     ensures falls { IfOk result (λ e. e.left ≤ left) }
-    ensures right { IfOk result (λ e. (plan : RunPlan) (past rest : List AStep) (form : AForm) (now : AStage) (more : List AStage) (st : NodeState) → IsRunPlan plan → session.now ≡ session_in plan
+    ensures right { IfOk result (λ e. (plan : RunPlan) (past rest : List AStep) (form : AForm) (now : AStage) (more : List AStage)
+        (st : NodeState) → IsRunPlan plan → session.now ≡ session_in plan
         → execution ≡ length past → IsComing plan past (Distribute moving.share.decomposition form) rest now more me left st
         → GoesOnMoving plan past moving.share.decomposition form now more me moving
         → KnowsLengths plan past (Distribute moving.share.decomposition form) now me sizes.now
@@ -118,9 +148,9 @@ pub fn enter_move(
         Some(stage) => {
             let naming = naming(session, stage, execution, moving.share.decomposition);
             let sent = move_sends(alloc, session, me, naming, &moving, sizes);
-            moves_on(naming, moving, left, sent)
+            staged_by(naming, Activity::Moving(moving), left, sent)
         }
-        None => moved(alloc, execution, moving),
+        None => is_over(alloc, execution, Activity::Moving(moving)),
     }
 }
 
@@ -138,36 +168,6 @@ fn move_sends(
     let lists = moving.outgoing(alloc)?;
     let counts = counts(alloc, naming.stage, session.nodes, sizes)?;
     enter_stage(alloc, session, me, naming, &lists, counts.as_slice())
-}
-
-/// The stage with these letters, if there was memory for them.
-fn moves_on(
-    naming: Naming,
-    moving: Moving,
-    left: u32,
-    sent: Result<Staged, Memory>,
-) -> Result<Entered, Memory>
-    ensures { IfOk result (λ e. IsSomeOk sent (λ x. IsStagedBy naming (Moves moving) left x e)) }
-{
-    match sent {
-        Ok(sent) => Ok(stage_with(naming, Activity::Moving(moving), left, sent)),
-        Err(Memory) => without_move(moving),
-    }
-}
-
-fn without_move(_moving: Moving) -> Result<Entered, Memory>
-    ensures { IfOk result (λ e. ⊥) }
-{
-    Err(Memory)
-}
-
-/// No stage is due.
-fn moved(alloc: Global, execution: u64, _moving: Moving) -> Result<Entered, Memory>
-    ensures left { IfOk result (λ e. e.left ≡ 0) }
-    ensures begins { IfOk result (λ e. e.begins ≡ false) }
-    ensures stands { IfOk result (λ e. (me nodes : ℕ) → CanStand me nodes e) }
-{
-    Ok(enter_end(alloc, execution))
 }
 
 /// The next phase of an inspection; `sizes` has the lengths of the lists that were sent in the phase before.
@@ -189,11 +189,15 @@ pub fn enter_inspection(
     ensures falls { IfOk result (λ e. e.left ≤ left) }
     ensures begins { IfOk result (λ e. e.begins ≡ false) }
     ensures placed { IfOk result (λ e. IfSome (phase_of inspection.stage) (λ l. (e.at.execution ≡ execution) × (e.at.site ≡ site))) }
-    ensures right { IfOk result (λ e. (plan : RunPlan) (past rest : List AStep) (turn : ATurn) (present : APhase) (st : NodeState) → IsRunPlan plan → session.now ≡ session_in plan
-        → execution ≡ length past → IsComing plan past (Forall site turn) rest (stage.InLoop present) (stages_behind (loop_at (scene_in plan) past site turn) present) me left st
-        → GoesOnInspecting plan past site turn present me st.holdings.tables inspection → parts.now ≡ st.holdings.parts → pages.now ≡ st.holdings.pages
+    ensures right { IfOk result (λ e. (plan : RunPlan) (past rest : List AStep) (turn : ATurn) (present : APhase) (st : NodeState)
+        → IsRunPlan plan → session.now ≡ session_in plan
+        → execution ≡ length past → IsComing plan past (Forall site turn) rest (stage.InLoop present)
+        (stages_behind (loop_at (scene_in plan) past site turn) present) me left st
+        → GoesOnInspecting plan past site turn present me st.holdings.tables inspection → parts.now ≡ st.holdings.parts
+        → pages.now ≡ st.holdings.pages
         → KnowsLengths plan past (Forall site turn) (stage.InLoop present) me sizes.now
-        → IsRight plan (left_in plan past (Forall site turn) rest (stage.InLoop present ∷ stages_behind (loop_at (scene_in plan) past site turn) present)) me e st) }
+        → IsRight plan (left_in plan past (Forall site turn) rest
+        (stage.InLoop present ∷ stages_behind (loop_at (scene_in plan) past site turn) present)) me e st) }
 {
     match inspection.phase() {
         Some(phase) => {
@@ -208,9 +212,9 @@ pub fn enter_inspection(
                 pages,
                 sizes,
             );
-            inspecting(naming, inspection, left, sent)
+            staged_by(naming, Activity::Inspecting(inspection), left, sent)
         }
-        None => inspected(alloc, execution, inspection),
+        None => is_over(alloc, execution, Activity::Inspecting(inspection)),
     }
 }
 
@@ -233,36 +237,6 @@ fn inspection_sends(
     enter_stage(alloc, session, me, naming, &lists, counts.as_slice())
 }
 
-/// The phase with these letters, if there was memory for them.
-fn inspecting(
-    naming: Naming,
-    inspection: Inspection,
-    left: u32,
-    sent: Result<Staged, Memory>,
-) -> Result<Entered, Memory>
-    ensures { IfOk result (λ e. IsSomeOk sent (λ x. IsStagedBy naming (Inspecting inspection) left x e)) }
-{
-    match sent {
-        Ok(sent) => Ok(stage_with(naming, Activity::Inspecting(inspection), left, sent)),
-        Err(Memory) => without_inspection(inspection),
-    }
-}
-
-fn without_inspection(_inspection: Inspection) -> Result<Entered, Memory>
-    ensures { IfOk result (λ e. ⊥) }
-{
-    Err(Memory)
-}
-
-/// No phase is due.
-fn inspected(alloc: Global, execution: u64, _inspection: Inspection) -> Result<Entered, Memory>
-    ensures left { IfOk result (λ e. e.left ≡ 0) }
-    ensures begins { IfOk result (λ e. e.begins ≡ false) }
-    ensures stands { IfOk result (λ e. (me nodes : ℕ) → CanStand me nodes e) }
-{
-    Ok(enter_end(alloc, execution))
-}
-
 /// The phase in which the ghosts of an execution are gathered.
 pub fn enter_gather(
     alloc: Global,
@@ -277,9 +251,12 @@ pub fn enter_gather(
     requires left { left < 2 ^ 31 }
     ensures made { IfOk result (CanStand me session.now.nodes) }
     ensures falls { IfOk result (λ e. e.left ≤ left) }
-    ensures right { IfOk result (λ e. (plan : RunPlan) (past rest : List AStep) (turn : ATurn) (st : NodeState) → IsRunPlan plan → session.now ≡ session_in plan
-        → execution ≡ length past → IsComing plan past (Forall site turn) rest (stage.InLoop phase.Gather) (stage.InLoop phase.Scatter ∷ []) me left st
-        → is_empty_turn turn ≡ false → prepared_in st.holdings.kept site ≡ Some prepared.now → CanExecute (scene_in plan) past site turn me st.holdings.tables prepared.now
+    ensures right { IfOk result (λ e. (plan : RunPlan) (past rest : List AStep) (turn : ATurn) (st : NodeState) → IsRunPlan plan
+        → session.now ≡ session_in plan
+        → execution ≡ length past → IsComing plan past (Forall site turn) rest (stage.InLoop phase.Gather) (stage.InLoop phase.Scatter
+        ∷ []) me left st
+        → is_empty_turn turn ≡ false → prepared_in st.holdings.kept site ≡ Some prepared.now
+        → CanExecute (scene_in plan) past site turn me st.holdings.tables prepared.now
         → parts.now ≡ st.holdings.parts
         → IsRight plan (left_in plan past (Forall site turn) rest (stage.InLoop phase.Gather ∷ stage.InLoop phase.Scatter ∷ [])) me e st) }
 {
@@ -306,14 +283,16 @@ pub fn enter_scatter(
     requires left { left < 2 ^ 31 }
     ensures made { IfOk result (CanStand me session.now.nodes) }
     ensures falls { IfOk result (λ e. e.left ≤ left) }
-    ensures right { IfOk result (λ e. (plan : RunPlan) (past rest : List AStep) (turn : ATurn) (st : NodeState) → IsRunPlan plan → session.now ≡ session_in plan
+    ensures right { IfOk result (λ e. (plan : RunPlan) (past rest : List AStep) (turn : ATurn) (st : NodeState) → IsRunPlan plan
+        → session.now ≡ session_in plan
         → execution ≡ length past → IsComing plan past (Forall site turn) rest (stage.InLoop phase.Scatter) [] me left st
-        → is_empty_turn turn ≡ false → prepared_in st.holdings.kept site ≡ Some prepared.now → IsExecuting (scene_in plan) past site turn me st.holdings.tables prepared.now executing
+        → is_empty_turn turn ≡ false → prepared_in st.holdings.kept site ≡ Some prepared.now
+        → IsExecuting (scene_in plan) past site turn me st.holdings.tables prepared.now executing
         → IsRight plan (left_in plan past (Forall site turn) rest (stage.InLoop phase.Scatter ∷ [])) me e st) }
 {
     let naming = naming(session, Stage::InLoop(LoopPhase::Scatter), execution, site);
     let sent = scatter_sends(alloc, session, me, naming, prepared, &executing);
-    scattering(naming, executing, left, sent)
+    staged_by(naming, Activity::Scattering(executing), left, sent)
 }
 
 /// What is sent as contributions are scattered.
@@ -331,25 +310,4 @@ fn scatter_sends(
     let lists = scatter_lists(alloc, prepared, executing)?;
     let counts = scatter_counts(alloc, prepared)?;
     enter_stage(alloc, session, me, naming, &lists, counts.as_slice())
-}
-
-/// The phase with these letters, if there was memory for them.
-fn scattering(
-    naming: Naming,
-    executing: Executing,
-    left: u32,
-    sent: Result<Staged, Memory>,
-) -> Result<Entered, Memory>
-    ensures { IfOk result (λ e. IsSomeOk sent (λ x. IsStagedBy naming (Scattering executing) left x e)) }
-{
-    match sent {
-        Ok(sent) => Ok(stage_with(naming, Activity::Scattering(executing), left, sent)),
-        Err(Memory) => without_execution(executing),
-    }
-}
-
-fn without_execution(_executing: Executing) -> Result<Entered, Memory>
-    ensures { IfOk result (λ e. ⊥) }
-{
-    Err(Memory)
 }

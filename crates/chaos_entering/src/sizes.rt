@@ -2,9 +2,9 @@ ghost use Rattle.std.specs.Prelude.{◌≡◌, ◌/◌, map, length, IfOk};
 ghost use Rattle.fd_words.specs.Lists.{list_at};
 ghost use Rattle.chaos_entering.specs.Entering.{counts_behind, counts_behind_loop};
 
-use chaos_phases::LoopPhase;
-use chaos_run::Stage;
 use fd_words::{Memory, NumberLists, Numbers};
+use plan_loop::LoopPhase;
+use plan_run::Stage;
 use std::alloc::Global;
 
 /// How long each list is.

@@ -62,7 +62,9 @@ struct Iterations<'a> {
 
 impl Iterations<'_> {
     fn run(&self, prepared: &Prepared, joining: &mut Joining) -> Result<(), Memory>
-        ensures { OnOk result (joining.new ≡ after_iterations self.now.operators.now self.now.pieces.now self.now.ghosts.now self.now.terms.now self.now.seats.now self.now.width self.now.body.now prepared.now.iterations prepared.now.references joining.old) }
+        ensures { OnOk result (joining.new ≡ after_iterations self.now.operators.now self.now.pieces.now self.now.ghosts.now
+            self.now.terms.now self.now.seats.now self.now.width self.now.body.now prepared.now.iterations prepared.now.references
+            joining.old) }
     {
         let iterations = prepared.iterations.as_slice();
         let mut row = prepared.references.as_slice();
@@ -75,7 +77,8 @@ impl Iterations<'_> {
 
     /// The iteration `i`; `row` has the references from this iteration on.
     fn run_one(&self, i: i64, row: &[LocalRef], joining: &mut Joining) -> Result<(), Memory>
-        ensures { OnOk result (joining.new ≡ fold (after_statement self.now.operators.now self.now.pieces.now self.now.ghosts.now self.now.terms.now self.now.seats.now i row.now) joining.old self.now.body.now) }
+        ensures { OnOk result (joining.new ≡ fold (after_statement self.now.operators.now self.now.pieces.now self.now.ghosts.now
+            self.now.terms.now self.now.seats.now i row.now) joining.old self.now.body.now) }
     {
         for statement in self.body {
             let to = locate(self.seats, row, target(statement));

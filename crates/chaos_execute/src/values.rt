@@ -1,26 +1,12 @@
 ghost use Rattle.std.specs.Prelude.{◌≡◌};
-ghost use Rattle.fd_program.specs.Scalars.{exactly};
 ghost use Rattle.fd_program.specs.Stores.{number_at};
 ghost use Rattle.fd_program.specs.Values.{value_of};
-ghost use Rattle.fd_words.specs.Value.{wrapped};
 ghost use Rattle.chaos_execute.specs.Seats.{read_here};
 
 use crate::seat::{Seat, read};
 use chaos_sched::LocalRef;
 use fd_program::CheckedExpr;
-use fd_syntax::Arith;
-use fd_words::{NumberLists, Numbers, minus, negated, plus, times};
-
-/// The sum, difference or product, modulo 2^64.
-fn combine(op: Arith, a: i64, b: i64) -> i64
-    ensures { result ≡ wrapped (exactly op a b) }
-{
-    match op {
-        Arith::Plus => plus(a, b),
-        Arith::Minus => minus(a, b),
-        Arith::Times => times(a, b),
-    }
-}
+use fd_words::{NumberLists, Numbers, negated};
 
 fn term(terms: &Numbers, place: u32) -> i64
     ensures { result ≡ number_at terms.now place }
@@ -54,8 +40,7 @@ pub fn evaluate(
             i,
             row,
         )),
-        CheckedExpr::Binary { op, left, right } => combine(
-            *op,
+        CheckedExpr::Binary { op, left, right } => op.apply(
             evaluate(left.get(), pieces, ghosts, terms, seats, i, row),
             evaluate(right.get(), pieces, ghosts, terms, seats, i, row),
         ),

@@ -7,17 +7,19 @@ use Rattle.chaos_dist.specs.Counting.{below}
 use Rattle.fd_program.specs.Cells.{Cell}
 use Rattle.fd_program.specs.Homes.{needed_of, given_of}
 use Rattle.chaos_sched.specs.declared.item.Item.{Item}
-use Rattle.chaos_phases.specs.Fits.{IsOwn, IsOther}
-use Rattle.chaos_phases.specs.LoopLetters.{row_for, value_before, value_given}
+use Rattle.plan_tables.specs.Fits.{IsOwn, IsOther}
+use Rattle.plan_loop.specs.LoopLetters.{row_for, value_before, value_given}
 use Rattle.chaos_executing.specs.Counts.{GatherHasCounts, ScatterHasCounts, CountsAreReported}
 
-row_count : (R : Cell → Item → Type 0) (value : Cell → ℤ) (cells : List Cell) (items : List Item) → AllZip R cells items → 3 * length items ≡ length (flat_map (row_for value) cells)
+row_count : (R : Cell → Item → Type 0) (value : Cell → ℤ) (cells : List Cell) (items : List Item) → AllZip R cells items
+    → 3 * length items ≡ length (flat_map (row_for value) cells)
 row_count R value [] [] h = refl
 row_count R value [] (i ∷ items) h = absurd h
 row_count R value (x ∷ cells) [] h = absurd h
 row_count R value (x ∷ cells) (i ∷ items) h = let rest = row_count R value cells items h.1 in omega (arith, rest)
 
-rows_counted : (R : Cell → Item → Type 0) (value : ℕ → Cell → ℤ) (cells : ℕ → List Cell) (qs : List ℕ) (lists : List (List Item)) → AllZip (λ q items. AllZip R (cells q) items) qs lists
+rows_counted : (R : Cell → Item → Type 0) (value : ℕ → Cell → ℤ) (cells : ℕ → List Cell) (qs : List ℕ) (lists : List (List Item))
+    → AllZip (λ q items. AllZip R (cells q) items) qs lists
     → map (λ items. 3 * length items) lists ≡ map (λ q. length (flat_map (row_for (value q)) (cells q))) qs
 rows_counted R value cells [] [] h = refl
 rows_counted R value cells [] (l ∷ lists) h = absurd h
@@ -32,7 +34,8 @@ same_length R [] (y ∷ ys) h = absurd h
 same_length R (x ∷ xs) [] h = absurd h
 same_length R (x ∷ xs) (y ∷ ys) h = let rest = same_length R xs ys h.1 in omega (arith, rest)
 
-same_total : (R : Cell → Item → Type 0) (cells : ℕ → List Cell) (qs : List ℕ) (lists : List (List Item)) → AllZip (λ q items. AllZip R (cells q) items) qs lists
+same_total : (R : Cell → Item → Type 0) (cells : ℕ → List Cell) (qs : List ℕ) (lists : List (List Item))
+    → AllZip (λ q items. AllZip R (cells q) items) qs lists
     → sum_by (λ items. length items) lists ≡ sum_by (λ q. length (cells q)) qs
 same_total R cells [] [] h = refl
 same_total R cells [] (l ∷ lists) h = absurd h
@@ -47,11 +50,13 @@ same_total R cells (q ∷ qs) (items ∷ lists) h =
 
 pub gather_has_counts : GatherHasCounts
 gather_has_counts f owners store slots p kept fits =
-    rows_counted (IsOther f owners slots) (λ q. value_before store) (λ q. needed_of f owners store p q) (below f.nodes) kept.schedule.gather_fetch fits.gather_fetch
+    rows_counted (IsOther f owners slots) (λ q. value_before store) (λ q. needed_of f owners store p q) (below f.nodes)
+    kept.schedule.gather_fetch fits.gather_fetch
 
 pub scatter_has_counts : ScatterHasCounts
 scatter_has_counts f owners store slots p kept fits =
-    rows_counted (IsOwn f owners) (λ q. value_given f owners store q) (λ q. given_of f owners store q p) (below f.nodes) kept.schedule.scatter_take fits.scatter_take
+    rows_counted (IsOwn f owners) (λ q. value_given f owners store q) (λ q. given_of f owners store q p) (below f.nodes)
+    kept.schedule.scatter_take fits.scatter_take
 
 pub counts_are_reported : CountsAreReported
 counts_are_reported f owners store slots p kept fits = (

@@ -10,11 +10,11 @@ use Rattle.fd_program.specs.Cells.{Cell}
 use Rattle.fd_program.specs.Checks.{IsAligned, IsExtent}
 use Rattle.fd_program.specs.Homes.{cells_of, needed_of}
 use Rattle.fd_program.specs.Layouts.{Scene, loop_at, owners_at, store_at}
-use Rattle.fd_program.specs.ListLaws.{Among, all_at, all_weaker}
+use Rattle.fd_program.specs.ListLaws.{Among, all_at, all_weaker, some_at}
 use Rattle.fd_program.specs.LoopCases.{both_parts}
 use Rattle.fd_program.specs.Places.{parts_of}
 use Rattle.fd_program.specs.Stores.{array_at, no_array}
-use Rattle.fd_program.specs.Uses.{is_read}
+use Rattle.fd_words.specs.Roles.{is_read}
 use Rattle.fd_program.specs.declared.array.ArrayFacts.{ArrayFacts}
 use Rattle.fd_program.specs.declared.trace.LoopTurn.{LoopTurn}
 use Rattle.fd_program.specs.declared.trace.Step.{Step}
@@ -22,12 +22,12 @@ use Rattle.chaos_hash.specs.Stamps.{Stamps}
 use Rattle.chaos_move.specs.Moves.{value_at, packed}
 use Rattle.chaos_sched.specs.declared.item.Item.{Item}
 use Rattle.chaos_sched.specs.declared.prepared.Prepared.{Prepared}
-use Rattle.chaos_phases.specs.Fits.{IsOwn}
-use Rattle.chaos_phases.specs.LoopLetters.{value_before, sent_in}
-use Rattle.chaos_phases.specs.declared.loop_phase.LoopPhase.TheVariants.{Gather}
+use Rattle.plan_tables.specs.Fits.{IsOwn}
+use Rattle.plan_loop.specs.LoopLetters.{value_before, sent_in}
+use Rattle.plan_loop.specs.declared.loop_phase.LoopPhase.TheVariants.{Gather}
 use Rattle.chaos_execute.specs.Ready.{AreSmall}
 use Rattle.chaos_execute.proofs.Gathered.{IsCellOf, from_between, met_among, met_cell, letters_are}
-use Rattle.chaos_execute.proofs.Lists.{some_at, zip_weaker}
+use Rattle.chaos_execute.proofs.Lists.{zip_weaker}
 use Rattle.chaos_execute.proofs.Standing.{part_value}
 use Rattle.chaos_executing.specs.InRun.{CanExecute}
 use Rattle.chaos_executing.proofs.Owned.{all_owned, is_site}
@@ -46,21 +46,25 @@ less_or_same e extent h = grind (arith, ints, nat_tests)
 
 small_element : (e extent : ℕ) → (int_le (pos 1) (pos e) && int_le (pos e) (pos extent)) ≡ true → extent ≤ 1048576 → e < 2 ^ 63
 small_element e extent h few =
-    let most : e ≤ extent = less_or_same e extent (both_parts (int_le (pos 1) (pos e)) (int_le (pos e) (pos extent)) h).1 in omega (arith, most, few)
+    let most : e ≤ extent = less_or_same e extent (both_parts (int_le (pos 1) (pos e)) (int_le (pos e) (pos extent)) h).1 in
+    omega (arith, most, few)
 
 -- the array with a number is one of the arrays
-array_known : (P : ArrayFacts → Type 0) (arrays : List ArrayFacts) (array : ℕ) → AllByRecursion P arrays → array < length arrays → P (array_at arrays array)
+array_known : (P : ArrayFacts → Type 0) (arrays : List ArrayFacts) (array : ℕ) → AllByRecursion P arrays → array < length arrays
+    → P (array_at arrays array)
 array_known P arrays array all h =
     let found = some_at arrays array h in
     subst P (sym (ap (λ o. unwrap_or o no_array) found.1)) (all_at P arrays array found.0 all found.1)
 
-module _ (s : Scene) (past : List Step) (site : ℕ) (turn : LoopTurn) (p : ℕ) (tables : List Stamps) (kept : Prepared) (can : CanExecute s past site turn p tables kept) where
+module _ (s : Scene) (past : List Step) (site : ℕ) (turn : LoopTurn) (p : ℕ) (tables : List Stamps) (kept : Prepared)
+    (can : CanExecute s past site turn p tables kept) where
   pub extents : AllByRecursion (λ (a : ArrayFacts). IsExtent a.extent) s.checked.arrays
   extents =
       all_weaker (IsAligned s.checked.layouts) (λ (a : ArrayFacts). IsExtent a.extent) (λ a h. h.extent) s.checked.arrays
       (recursion_from_All (IsAligned s.checked.layouts) s.checked.arrays can.checked.arrays)
 
-  read_cell : (q : ℕ) (x : Cell) → Among x (needed_of (loop_at s past site turn) (owners_at s past) (store_at s past) q p) → IsCellOf (loop_at s past site turn) (owners_at s past) p x
+  read_cell : (q : ℕ) (x : Cell) → Among x (needed_of (loop_at s past site turn) (owners_at s past) (store_at s past) q p)
+      → IsCellOf (loop_at s past site turn) (owners_at s past) p x
   read_cell q x a =
       let f = loop_at s past site turn in
       let owners = owners_at s past in
@@ -68,10 +72,12 @@ module _ (s : Scene) (past : List Step) (site : ℕ) (turn : LoopTurn) (p : ℕ)
       met_cell f owners store (is_site s past site p turn tables kept can) can.sound is_read q p x
       (met_among f owners store is_read q p x (from_between f owners store q p x (cells_of f owners store is_read q p) a).1)
 
-  small_cell : (q : ℕ) (x : Cell) → Among x (needed_of (loop_at s past site turn) (owners_at s past) (store_at s past) q p) → x.element < 2 ^ 63
+  small_cell : (q : ℕ) (x : Cell) → Among x (needed_of (loop_at s past site turn) (owners_at s past) (store_at s past) q p)
+      → x.element < 2 ^ 63
   small_cell q x a =
       let c = read_cell q x a in
-      small_element x.element (array_at s.checked.arrays x.array).extent c.within (array_known (λ (a : ArrayFacts). IsExtent a.extent) s.checked.arrays x.array extents c.array).most
+      small_element x.element (array_at s.checked.arrays x.array).extent c.within
+      (array_known (λ (a : ArrayFacts). IsExtent a.extent) s.checked.arrays x.array extents c.array).most
 
   pub small_reads : AreSmall kept.schedule.gather_send
   small_reads =
@@ -85,7 +91,8 @@ module _ (s : Scene) (past : List Step) (site : ℕ) (turn : LoopTurn) (p : ℕ)
       (λ q items a h.
       All-from_recursion Small items
       (each_item Small (cells q) items
-      (zip_weaker (IsOwn f owners) (λ x i. Small i) (cells q) items (λ x i b r. subst (λ e. e < 2 ^ 63) (sym r.0.element) (small_cell q x b)) h)))
+      (zip_weaker (IsOwn f owners) (λ x i. Small i) (cells q) items (λ x i b r. subst (λ e. e < 2 ^ 63) (sym r.0.element)
+      (small_cell q x b)) h)))
       can.inspected.fits.gather_send))
 
   pub reads_are_sent : map (packed (parts_of s.checked.arrays (owners_at s past) (store_at s past) p)) kept.schedule.gather_send
@@ -95,11 +102,13 @@ module _ (s : Scene) (past : List Step) (site : ℕ) (turn : LoopTurn) (p : ℕ)
       let owners = owners_at s past in
       let store = store_at s past in
       let pieces = parts_of f.arrays owners store p in
-      letters_are (λ q. value_before store) (IsOwn f owners) (λ i. value_at pieces i.array i.local) (λ q. needed_of f owners store q p) (below f.nodes) kept.schedule.gather_send
+      letters_are (λ q. value_before store) (IsOwn f owners) (λ i. value_at pieces i.array i.local) (λ q. needed_of f owners store q p)
+      (below f.nodes) kept.schedule.gather_send
       (λ x i r. (r.0.array, r.0.element))
       (λ q x i a r.
       let known = read_cell q x a in
       ap (λ k. value_at pieces k i.local) r.0.array
       ∙ ap (value_at pieces x.array) r.0.local
-      ∙ part_value f owners (all_owned s past site p turn tables kept can) store p x.array (pos x.element) known.array known.within known.owner)
+      ∙ part_value f owners (all_owned s past site p turn tables kept can) store p x.array (pos x.element) known.array known.within
+      known.owner)
       can.inspected.fits.gather_send

@@ -13,7 +13,7 @@ use Rattle.fd_program.specs.declared.trace.Step.{Step}
 use Rattle.chaos_hash.specs.Stamps.{Stamps}
 use Rattle.chaos_sched.specs.declared.item.Item.{Item}
 use Rattle.chaos_sched.specs.declared.prepared.Prepared.{Prepared}
-use Rattle.chaos_phases.specs.Fits.{Fits, IsOwn, IsOther}
+use Rattle.plan_tables.specs.Fits.{Fits, IsOwn, IsOther}
 use Rattle.chaos_execute.specs.Executed.{AreOwned, IsReady}
 use Rattle.chaos_execute.proofs.Ready.{run_makes_ready}
 use Rattle.chaos_executing.specs.InRun.{CanExecute}
@@ -29,7 +29,12 @@ abbrev nothing_kept : ℕ → Prepared
 nothing_kept nodes = record {
   iterations = [];
   references = [];
-  schedule = record { gather_send = no_items nodes; gather_fetch = no_items nodes; scatter_send = no_items nodes; scatter_take = no_items nodes };
+  schedule = record {
+    gather_send = no_items nodes;
+    gather_fetch = no_items nodes;
+    scatter_send = no_items nodes;
+    scatter_take = no_items nodes;
+  };
 }
 
 abbrev no_slots : ℕ → ℕ → Option ℕ
@@ -42,7 +47,8 @@ none_between p q = by (p == q)
     by true = refl
     by false = refl
 
-no_item : (R : Cell → Item → Type 0) (cells : ℕ → List Cell) (qs : List ℕ) → ((q : ℕ) → cells q ≡ []) → AllZip (λ q items. AllZip R (cells q) items) qs (map (λ (q : ℕ). []) qs)
+no_item : (R : Cell → Item → Type 0) (cells : ℕ → List Cell) (qs : List ℕ) → ((q : ℕ) → cells q ≡ [])
+    → AllZip (λ q items. AllZip R (cells q) items) qs (map (λ (q : ℕ). []) qs)
 no_item R cells [] e = tt
 no_item R cells (q ∷ qs) e = (subst (λ (xs : List Cell). AllZip R xs []) (sym (e q)) tt, no_item R cells qs e)
 
@@ -53,16 +59,21 @@ module _ (s : Scene) (past : List Step) (site p : ℕ) where
       record {
         iterations = refl;
         references = tt;
-        gather_send = no_item (IsOwn f (owners_at s past)) (λ q. needed_of f (owners_at s past) (store_at s past) q p) (below s.nodes) (λ q. none_between q p);
-        gather_fetch = no_item (IsOther f (owners_at s past) no_slots) (λ q. needed_of f (owners_at s past) (store_at s past) p q) (below s.nodes) (λ q. none_between p q);
-        scatter_send = no_item (IsOther f (owners_at s past) no_slots) (λ q. given_of f (owners_at s past) (store_at s past) p q) (below s.nodes) (λ q. none_between p q);
-        scatter_take = no_item (IsOwn f (owners_at s past)) (λ q. given_of f (owners_at s past) (store_at s past) q p) (below s.nodes) (λ q. none_between q p);
+        gather_send = no_item (IsOwn f (owners_at s past)) (λ q. needed_of f (owners_at s past) (store_at s past) q p) (below s.nodes)
+            (λ q. none_between q p);
+        gather_fetch = no_item (IsOther f (owners_at s past) no_slots) (λ q. needed_of f (owners_at s past) (store_at s past) p q)
+            (below s.nodes) (λ q. none_between p q);
+        scatter_send = no_item (IsOther f (owners_at s past) no_slots) (λ q. given_of f (owners_at s past) (store_at s past) p q)
+            (below s.nodes) (λ q. none_between p q);
+        scatter_take = no_item (IsOwn f (owners_at s past)) (λ q. given_of f (owners_at s past) (store_at s past) q p) (below s.nodes)
+            (λ q. none_between q p);
       }
 
   module _ (turn : LoopTurn) (tables : List Stamps) (kept : Prepared) (can : CanExecute s past site turn p tables kept) where
     ready_without : IsReady (loop_at s past site no_turn) (owners_at s past) (store_at s past) no_slots p (nothing_kept s.nodes) []
     ready_without =
-        run_makes_ready s past site no_turn no_slots p (nothing_kept s.nodes) [] can.some_nodes can.checked can.start can.history can.steps can.known refl
+        run_makes_ready s past site no_turn no_slots p (nothing_kept s.nodes) [] can.some_nodes can.checked can.start can.history
+        can.steps can.known refl
         (λ d e g slot h k. absurd (none-some slot h)) nothing_fits (λ array e slot h k. absurd (none-some slot k))
 
     pub all_owned : AreOwned (loop_at s past site turn) (owners_at s past)

@@ -13,9 +13,9 @@ use Rattle.fd_program.specs.declared.trace.Step.{Step}
 use Rattle.chaos_hash.specs.Stamps.{Stamps}
 use Rattle.chaos_move.specs.Moves.{packed, packed_combined}
 use Rattle.chaos_sched.specs.declared.prepared.Prepared.{Prepared}
-use Rattle.chaos_phases.specs.declared.loop_phase.LoopPhase.TheVariants.{Gather, Scatter}
-use Rattle.chaos_prepare.specs.Tables.{slots_of}
-use Rattle.chaos_run.specs.Held.{HasGhosts, no_hand}
+use Rattle.plan_loop.specs.declared.loop_phase.LoopPhase.TheVariants.{Gather, Scatter}
+use Rattle.plan_tables.specs.Tables.{slots_of}
+use Rattle.plan_run.specs.Held.{HasGhosts, no_hand}
 use Rattle.chaos_execute.specs.Executed.{IsReady, ghosts_gathered}
 use Rattle.chaos_execute.specs.Letters.{HasRows, gathered, after_apply}
 use Rattle.chaos_execute.specs.Pending.{pending_of}
@@ -33,13 +33,16 @@ use Rattle.chaos_executing.proofs.Tables.{slots_apart, ghosts_have_room}
 
 module _ (s : Scene) (past : List Step) (site : ℕ) (turn : LoopTurn) (p : ℕ) (tables : List Stamps) (kept : Prepared) where
   ready : CanExecute s past site turn p tables kept → AreStamped tables
-      → IsReady (loop_at s past site turn) (owners_at s past) (store_at s past) (slots_of (loop_at s past site turn) tables) p kept (no_ghosts (loop_at s past site turn) tables)
+      → IsReady (loop_at s past site turn) (owners_at s past) (store_at s past) (slots_of (loop_at s past site turn) tables) p kept
+      (no_ghosts (loop_at s past site turn) tables)
   ready can stamped =
       let f = loop_at s past site turn in
-      run_makes_ready s past site turn (slots_of f tables) p kept (no_ghosts f tables) can.some_nodes can.checked can.start can.history can.steps can.known can.sound
+      run_makes_ready s past site turn (slots_of f tables) p kept (no_ghosts f tables) can.some_nodes can.checked can.start can.history
+      can.steps can.known can.sound
       (slots_apart f tables stamped) can.inspected.fits (ghosts_have_room f tables stamped)
 
-  met : CanExecute s past site turn p tables kept → AreStamped tables → CanBeCalled (loop_at s past site turn) (owners_at s past) (store_at s past) p kept
+  met : CanExecute s past site turn p tables kept → AreStamped tables → CanBeCalled (loop_at s past site turn) (owners_at s past)
+      (store_at s past) p kept
   met can stamped =
       let f = loop_at s past site turn in
       calls_are_met f (owners_at s past) (store_at s past) (slots_of f tables) p kept (no_ghosts f tables) (ready can stamped)
@@ -47,7 +50,8 @@ module _ (s : Scene) (past : List Step) (site : ℕ) (turn : LoopTurn) (p : ℕ)
 
   -- ---- Gather
 
-  pub gather_sends : (pieces lists : List (List ℤ)) → (AreSmall kept.schedule.gather_send → lists ≡ map (packed pieces) kept.schedule.gather_send)
+  pub gather_sends : (pieces lists : List (List ℤ))
+      → (AreSmall kept.schedule.gather_send → lists ≡ map (packed pieces) kept.schedule.gather_send)
       → CanExecute s past site turn p tables kept → pieces ≡ parts_of s.checked.arrays (owners_at s past) (store_at s past) p
       → lists ≡ sent_at_loop s past site turn Gather p
   gather_sends pieces lists made can parts =
@@ -55,15 +59,20 @@ module _ (s : Scene) (past : List Step) (site : ℕ) (turn : LoopTurn) (p : ℕ)
       ∙ ap (λ x. map (packed x) kept.schedule.gather_send) parts
       ∙ reads_are_sent s past site turn p tables kept can
 
-  pub gather_ends : (f : LoopFacts) (pieces taken before ghosts : List (List ℤ)) (pending : PendingValues) → AreStamped tables → before ≡ no_ghosts f tables
-      → (HasRows taken kept.schedule.gather_fetch → ghosts ≡ gathered taken kept.schedule.gather_fetch before) → pending ≡ pending_of f kept pieces ghosts
-      → CanExecute s past site turn p tables kept → f ≡ loop_at s past site turn → pieces ≡ parts_of s.checked.arrays (owners_at s past) (store_at s past) p
-      → taken ≡ owed_at_loop s past site turn Gather p → IsExecuting s past site turn p tables kept (record { ghosts = ghosts; pending = pending })
+  pub gather_ends : (f : LoopFacts) (pieces taken before ghosts : List (List ℤ)) (pending : PendingValues) → AreStamped tables
+      → before ≡ no_ghosts f tables
+      → (HasRows taken kept.schedule.gather_fetch → ghosts ≡ gathered taken kept.schedule.gather_fetch before)
+      → pending ≡ pending_of f kept pieces ghosts
+      → CanExecute s past site turn p tables kept → f ≡ loop_at s past site turn → pieces ≡ parts_of s.checked.arrays (owners_at s past)
+      (store_at s past) p
+      → taken ≡ owed_at_loop s past site turn Gather p → IsExecuting s past site turn p tables kept
+      (record { ghosts = ghosts; pending = pending })
   gather_ends f pieces taken before ghosts pending stamped empty take run can facts parts owed =
       let g = loop_at s past site turn in
       let owners = owners_at s past in
       let store = store_at s past in
-      let rows : HasRows taken kept.schedule.gather_fetch = subst (λ t. HasRows t kept.schedule.gather_fetch) (sym owed) (met can stamped).gather_in in
+      let rows : HasRows taken kept.schedule.gather_fetch = subst (λ t. HasRows t kept.schedule.gather_fetch) (sym owed)
+      (met can stamped).gather_in in
       let made : ghosts ≡ ghosts_gathered g owners store p kept (no_ghosts g tables) =
       take rows
       ∙ ap (λ t. gathered t kept.schedule.gather_fetch before) owed
@@ -81,10 +90,13 @@ module _ (s : Scene) (past : List Step) (site : ℕ) (turn : LoopTurn) (p : ℕ)
 
   module _ (x : Executing) (h : IsExecuting s past site turn p tables kept x) where
     pending_is : x.pending ≡ pending_of (loop_at s past site turn) kept (parts_of s.checked.arrays (owners_at s past) (store_at s past) p)
-        (ghosts_gathered (loop_at s past site turn) (owners_at s past) (store_at s past) p kept (no_ghosts (loop_at s past site turn) tables))
-    pending_is = h.pending ∙ ap (pending_of (loop_at s past site turn) kept (parts_of s.checked.arrays (owners_at s past) (store_at s past) p)) h.gathered
+        (ghosts_gathered (loop_at s past site turn) (owners_at s past) (store_at s past) p kept
+        (no_ghosts (loop_at s past site turn) tables))
+    pending_is = h.pending ∙ ap (pending_of (loop_at s past site turn) kept (parts_of s.checked.arrays (owners_at s past)
+        (store_at s past) p)) h.gathered
 
-    pub scatter_sends : (lists : List (List ℤ)) → (AreSmall kept.schedule.scatter_send → lists ≡ map (packed_combined x.pending.ghosts) kept.schedule.scatter_send)
+    pub scatter_sends : (lists : List (List ℤ))
+        → (AreSmall kept.schedule.scatter_send → lists ≡ map (packed_combined x.pending.ghosts) kept.schedule.scatter_send)
         → lists ≡ sent_at_loop s past site turn Scatter p
     scatter_sends lists made =
         let f = loop_at s past site turn in
@@ -92,9 +104,11 @@ module _ (s : Scene) (past : List Step) (site : ℕ) (turn : LoopTurn) (p : ℕ)
         ∙ ap (λ (v : PendingValues). map (packed_combined v.ghosts) kept.schedule.scatter_send) pending_is
         ∙ scatter_letters f (owners_at s past) (store_at s past) (slots_of f tables) p kept (no_ghosts f tables) (ready h.can h.stamped)
 
-    pub scatter_ends : (taken pieces after : List (List ℤ)) → (HasRows taken kept.schedule.scatter_take → after ≡ after_apply kept x.pending taken pieces)
+    pub scatter_ends : (taken pieces after : List (List ℤ)) → (HasRows taken kept.schedule.scatter_take
+        → after ≡ after_apply kept x.pending taken pieces)
         → pieces ≡ parts_of s.checked.arrays (owners_at s past) (store_at s past) p → taken ≡ owed_at_loop s past site turn Scatter p
-        → after ≡ parts_of s.checked.arrays (owners_at s past) (after_loop s.checked.arrays (site_at s.checked.sites site) turn (store_at s past)) p
+        → after ≡ parts_of s.checked.arrays (owners_at s past) (after_loop s.checked.arrays (site_at s.checked.sites site) turn
+        (store_at s past)) p
     scatter_ends taken pieces after made parts owed =
         let f = loop_at s past site turn in
         let store = store_at s past in

@@ -1,5 +1,6 @@
 -- What stamped tables tell of slots, and of the ghosts that are made for them.
-use Rattle.std.proofs.Common.{◌≡◌, ℕ, zero, suc, ◌+◌, ◌<◌, ◌≤◌, pos, Bool, true, false, List, [], ◌∷◌, length, map, replicate, Option, Some, None, unwrap_or, refl, ap, sym, subst, ◌∙◌, arith, inl, inr}
+use Rattle.std.proofs.Common.{◌≡◌, ℕ, zero, suc, ◌+◌, ◌<◌, ◌≤◌, pos, Bool, true, false, List, [], ◌∷◌, length, map, replicate, Option, Some}
+use Rattle.std.proofs.Common.{None, unwrap_or, refl, ap, sym, subst, ◌∙◌, arith, inl, inr}
 use Rattle.std.specs.Prelude.{slice_get, if◌then◌else◌}
 use Rattle.std.specs.List.{list_any, range_with_len}
 use Rattle.std.specs.FinMap as fin
@@ -15,9 +16,10 @@ use Rattle.fd_program.specs.declared.array.ArrayFacts.{ArrayFacts}
 use Rattle.fd_program.specs.declared.loop_facts.LoopFacts.{LoopFacts}
 use Rattle.chaos_hash.specs.Stamps.{Stamps, has_stamp}
 use Rattle.chaos_hash.specs.declared.held.Held.{Held}
-use Rattle.chaos_phases.specs.Fits.{AreApart, HasRoom}
-use Rattle.chaos_prepare.specs.Tables.{no_table, table_at, entry_at, slot_by, slots_of, stamps_of}
-use Rattle.chaos_execute.proofs.Lists.{some_at, mapped_at, below_at}
+use Rattle.plan_tables.specs.Fits.{AreApart, HasRoom}
+use Rattle.plan_tables.specs.Tables.{no_table, table_at, entry_at, slot_by, slots_of, stamps_of}
+use Rattle.chaos_execute.proofs.Lists.{mapped_at, below_at}
+use Rattle.fd_program.specs.ListLaws.{some_at}
 use Rattle.chaos_executing.specs.Ghosts.{AreStamped, ghosts_below, no_ghosts}
 
 -- an entry with this slot
@@ -84,8 +86,10 @@ below_count a (suc n) = let rest : length (range_with_len (a + 1) n) ≡ n = bel
 peak_at : (tables : List Stamps) (d : ℕ) → unwrap_or (slice_get (peaks_of tables) d) 0 ≡ (table_at tables d).peak
 peak_at tables d = elim (cases_lt d (length tables)) [
   | inr outside ↦
-      let count : length (peaks_of tables) ≡ length tables = length-map (below (length tables)) (λ d. (table_at tables d).peak) ∙ below_count 0 (length tables) in
-      none_there (peaks_of tables) d (subst (λ n. n ≤ d) (sym count) outside) ∙ ap (λ (t : Stamps). t.peak) (sym (no_table_there tables d outside))
+      let count : length (peaks_of tables) ≡ length tables = length-map (below (length tables)) (λ d. (table_at tables d).peak)
+      ∙ below_count 0 (length tables) in
+      none_there (peaks_of tables) d (subst (λ n. n ≤ d) (sym count) outside)
+      ∙ ap (λ (t : Stamps). t.peak) (sym (no_table_there tables d outside))
   | inl inside ↦ below_at (λ d. (table_at tables d).peak) (length tables) d 0 inside
 ]
 

@@ -3,7 +3,7 @@ use Rattle.std.specs.Prelude.{ℕ, ◌<◌, ℤ, pos, List, length, map, replica
 use Rattle.fd_program.specs.declared.array.ArrayFacts.{ArrayFacts}
 use Rattle.fd_program.specs.declared.loop_facts.LoopFacts.{LoopFacts}
 use Rattle.chaos_hash.specs.Stamps.{Stamps, IsStamped}
-use Rattle.chaos_prepare.specs.Tables.{table_at}
+use Rattle.plan_tables.specs.Tables.{table_at}
 
 -- what is true of every table is true of each of these
 abbrev pub AreStamped : List Stamps → Type 0

@@ -1,7 +1,7 @@
-ghost use Rattle.std.specs.Prelude.{◌≡◌, ◌+◌, ◌*◌, length, map, sum_by, IfOk};
+ghost use Rattle.std.specs.Prelude.{◌≡◌, ◌*◌, length, map, sum_by, IfOk};
 
 use chaos_sched::{ItemLists, Items, Prepared};
-use fd_words::Memory;
+use fd_words::{Memory, count_sum};
 use std::alloc::Global;
 
 /// How many numbers each node's Gather letter to this node has: three for each item that is fetched
@@ -59,16 +59,7 @@ fn total(lists: &ItemLists) -> Result<u64, Memory>
     let mut total = 0u64;
     let all = lists.as_slice();
     for items in all {
-        total = sum(total, items.len() as u64)?;
+        total = count_sum(total, items.len() as u64)?;
     }
     Ok(total)
-}
-
-fn sum(one: u64, other: u64) -> Result<u64, Memory>
-    ensures { IfOk result (λ sum. sum ≡ one + other) }
-{
-    match one.checked_add(other) {
-        Some(sum) => Ok(sum),
-        None => Err(Memory),
-    }
 }

@@ -6,16 +6,16 @@ ghost use Rattle.fd_program.specs.Trace.{site_at};
 ghost use Rattle.fd_program.specs.declared.trace.LoopTurn.{LoopTurn};
 ghost use Rattle.fd_program.specs.declared.trace.Step.{Step};
 ghost use Rattle.chaos_hash.specs.Stamps.{Stamps};
-ghost use Rattle.chaos_phases.specs.declared.loop_phase.LoopPhase.TheVariants.{Gather, Scatter};
+ghost use Rattle.plan_loop.specs.declared.loop_phase.LoopPhase.TheVariants.{Gather, Scatter};
 ghost use Rattle.chaos_executing.specs.InRun.{CanExecute, IsExecuting, sent_at_loop, owed_at_loop};
 
 use crate::ghosts::empty_ghosts;
 use crate::letters::{change_pieces, given_values, read_values, take_ghosts};
 use chaos_execute::{PendingValues, compute};
-use chaos_prepare::TableSet;
 use chaos_sched::Prepared;
 use fd_program::LoopFacts;
 use fd_words::{Memory, NumberLists};
+use node_tables::TableSet;
 use std::alloc::Global;
 
 /// What an execution has in hand between its two phases: for each array the ghosts by slot, and what
@@ -32,7 +32,8 @@ pub fn gather_lists(
     prepared: &Prepared,
     pieces: &NumberLists,
 ) -> Result<NumberLists, Memory>
-    ensures { IfOk result (λ lists. (s : Scene) (past : List Step) (site : ℕ) (turn : LoopTurn) (p : ℕ) (tables : List Stamps) → CanExecute s past site turn p tables prepared.now
+    ensures { IfOk result (λ lists. (s : Scene) (past : List Step) (site : ℕ) (turn : LoopTurn) (p : ℕ) (tables : List Stamps)
+        → CanExecute s past site turn p tables prepared.now
         → pieces.now ≡ parts_of s.checked.arrays (owners_at s past) (store_at s past) p
         → lists ≡ sent_at_loop s past site turn Gather p) }
 {
@@ -50,7 +51,8 @@ pub fn execute(
     tables: &TableSet,
     taken: &NumberLists,
 ) -> Result<Executing, Memory>
-    ensures { IfOk result (λ executing. (s : Scene) (past : List Step) (site : ℕ) (turn : LoopTurn) (p : ℕ) → CanExecute s past site turn p tables.now prepared.now
+    ensures { IfOk result (λ executing. (s : Scene) (past : List Step) (site : ℕ) (turn : LoopTurn) (p : ℕ)
+        → CanExecute s past site turn p tables.now prepared.now
         → facts.now ≡ loop_at s past site turn
         → pieces.now ≡ parts_of s.checked.arrays (owners_at s past) (store_at s past) p
         → taken.now ≡ owed_at_loop s past site turn Gather p
@@ -69,7 +71,8 @@ pub fn scatter_lists(
     prepared: &Prepared,
     executing: &Executing,
 ) -> Result<NumberLists, Memory>
-    ensures { IfOk result (λ lists. (s : Scene) (past : List Step) (site : ℕ) (turn : LoopTurn) (p : ℕ) (tables : List Stamps) → IsExecuting s past site turn p tables prepared.now executing.now
+    ensures { IfOk result (λ lists. (s : Scene) (past : List Step) (site : ℕ) (turn : LoopTurn) (p : ℕ) (tables : List Stamps)
+        → IsExecuting s past site turn p tables prepared.now executing.now
         → lists ≡ sent_at_loop s past site turn Scatter p) }
 {
     let lists = given_values(alloc, prepared, &executing.pending)?;
@@ -85,10 +88,12 @@ pub fn applied(
     taken: &NumberLists,
     pieces: &NumberLists,
 ) -> Result<NumberLists, Memory>
-    ensures { IfOk result (λ after. (s : Scene) (past : List Step) (site : ℕ) (turn : LoopTurn) (p : ℕ) (tables : List Stamps) → IsExecuting s past site turn p tables prepared.now executing.now
+    ensures { IfOk result (λ after. (s : Scene) (past : List Step) (site : ℕ) (turn : LoopTurn) (p : ℕ) (tables : List Stamps)
+        → IsExecuting s past site turn p tables prepared.now executing.now
         → pieces.now ≡ parts_of s.checked.arrays (owners_at s past) (store_at s past) p
         → taken.now ≡ owed_at_loop s past site turn Scatter p
-        → after ≡ parts_of s.checked.arrays (owners_at s past) (after_loop s.checked.arrays (site_at s.checked.sites site) turn (store_at s past)) p) }
+        → after ≡ parts_of s.checked.arrays (owners_at s past) (after_loop s.checked.arrays (site_at s.checked.sites site) turn
+        (store_at s past)) p) }
 {
     let mut after = pieces.copy(alloc)?;
     change_pieces(prepared, &executing.pending, taken, &mut after);

@@ -1,12 +1,12 @@
-ghost use Rattle.std.specs.Prelude.{◌≡◌, ◌<◌, length, map, pos, replicate, slice_get, unwrap_or, IfOk, OnOk};
+ghost use Rattle.std.specs.Prelude.{◌≡◌, ◌<◌, length, map, slice_get, unwrap_or, IfOk, OnOk};
 ghost use Rattle.chaos_dist.specs.Counting.{below};
 ghost use Rattle.chaos_hash.specs.Stamps.{IsStamped};
-ghost use Rattle.chaos_prepare.specs.Tables.{table_at};
+ghost use Rattle.plan_tables.specs.Tables.{table_at};
 ghost use Rattle.chaos_executing.specs.Ghosts.{AreStamped, ghosts_below, no_ghosts};
 
-use chaos_prepare::TableSet;
 use fd_program::{ArrayFacts, LoopFacts};
 use fd_words::{Memory, NumberLists, Numbers};
+use node_tables::TableSet;
 use std::alloc::Global;
 
 /// Zero ghosts: each array has as many as its decomposition's table ever had entries. `Memory` also
@@ -54,7 +54,7 @@ fn ghosts_for(alloc: Global, arrays: &[ArrayFacts], peaks: &[u32]) -> Result<Num
 {
     let mut ghosts = NumberLists::new(alloc);
     for array in arrays {
-        ghosts.push(zeros(alloc, peak_of(peaks, array.decomposition))?)?;
+        ghosts.push(Numbers::zeros(alloc, u64::from(peak_of(peaks, array.decomposition)))?)?;
     }
     Ok(ghosts)
 }
@@ -63,14 +63,4 @@ fn peak_of(peaks: &[u32], decomposition: u32) -> u32
     ensures { result ≡ unwrap_or (slice_get peaks.now decomposition) 0 }
 {
     peaks.get(decomposition as usize).copied().unwrap_or(0)
-}
-
-fn zeros(alloc: Global, count: u32) -> Result<Numbers, Memory>
-    ensures { IfOk result (λ numbers. numbers ≡ replicate count (pos 0)) }
-{
-    let mut numbers = Numbers::new(alloc);
-    for _ in 0..count {
-        numbers.push(0)?;
-    }
-    Ok(numbers)
 }

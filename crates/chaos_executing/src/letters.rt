@@ -16,7 +16,8 @@ pub(crate) fn read_values(
     prepared: &Prepared,
     pieces: &NumberLists,
 ) -> Result<NumberLists, Memory>
-    ensures { IfOk result (λ lists. AreSmall prepared.now.schedule.gather_send → lists ≡ map (packed pieces.now) prepared.now.schedule.gather_send) }
+    ensures { IfOk result (λ lists. AreSmall prepared.now.schedule.gather_send
+        → lists ≡ map (packed pieces.now) prepared.now.schedule.gather_send) }
 {
     if small(&prepared.schedule.gather_send) {
         gather_out(alloc, prepared, pieces)
@@ -27,7 +28,8 @@ pub(crate) fn read_values(
 
 /// Puts the values of the letters into their slots; none where a letter is too long or too short.
 pub(crate) fn take_ghosts(prepared: &Prepared, taken: &NumberLists, ghosts: &mut NumberLists)
-    ensures { HasRows taken.now prepared.now.schedule.gather_fetch → ghosts.new ≡ gathered taken.now prepared.now.schedule.gather_fetch ghosts.old }
+    ensures { HasRows taken.now prepared.now.schedule.gather_fetch → ghosts.new ≡ gathered taken.now prepared.now.schedule.gather_fetch
+        ghosts.old }
 {
     if in_rows(taken, &prepared.schedule.gather_fetch) {
         gather_in(prepared, taken, ghosts);
@@ -40,7 +42,8 @@ pub(crate) fn given_values(
     prepared: &Prepared,
     pending: &PendingValues,
 ) -> Result<NumberLists, Memory>
-    ensures { IfOk result (λ lists. AreSmall prepared.now.schedule.scatter_send → lists ≡ map (packed_combined pending.now.ghosts) prepared.now.schedule.scatter_send) }
+    ensures { IfOk result (λ lists. AreSmall prepared.now.schedule.scatter_send
+        → lists ≡ map (packed_combined pending.now.ghosts) prepared.now.schedule.scatter_send) }
 {
     if small(&prepared.schedule.scatter_send) {
         scatter_out(alloc, prepared, pending)
@@ -57,7 +60,8 @@ pub(crate) fn change_pieces(
     taken: &NumberLists,
     pieces: &mut NumberLists,
 )
-    ensures { HasRows taken.now prepared.now.schedule.scatter_take → pieces.new ≡ after_apply prepared.now pending.now taken.now pieces.old }
+    ensures { HasRows taken.now prepared.now.schedule.scatter_take → pieces.new ≡ after_apply prepared.now pending.now taken.now
+        pieces.old }
 {
     if in_rows(taken, &prepared.schedule.scatter_take) {
         apply(prepared, pending, taken, pieces);

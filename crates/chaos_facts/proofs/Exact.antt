@@ -1,5 +1,6 @@
 -- Facts by the records are those of the run, and those of a checked program.
-use Rattle.std.proofs.Common.{◌≡◌, refl, ℕ, zero, suc, ◌+◌, ◌-◌, ◌<◌, ◌≤◌, ◌==◌, ℤ, Bool, true, false, List, [], ◌∷◌, ◌++◌, length, map, Option, Some, None, unwrap_or, ap, sym, subst, ◌∙◌, arith}
+use Rattle.std.proofs.Common.{◌≡◌, refl, ℕ, zero, suc, ◌+◌, ◌-◌, ◌<◌, ◌≤◌, ◌==◌, ℤ, Bool, true, false, List, [], ◌∷◌, ◌++◌, length, map}
+use Rattle.std.proofs.Common.{Option, Some, None, unwrap_or, ap, sym, subst, ◌∙◌, arith}
 use Rattle.std.specs.Prelude.{slice_get, if◌then◌else◌, ◌≤ℤ◌, ◌+ℤ◌, pos}
 use Rattle.std.specs.List.{AllByRecursion, enumerate_from}
 use Rattle.std.proofs.lemmas.Bool.Decides.{nat_tests}
@@ -26,13 +27,14 @@ use Rattle.fd_program.specs.declared.loop_facts.LoopFacts.{LoopFacts}
 use Rattle.fd_program.specs.declared.site.Site.{Site}
 use Rattle.fd_program.specs.declared.trace.Step.{Step}
 use Rattle.fd_program.specs.declared.trace.Step.TheVariants.{Distribute, Print, Forall}
-use Rattle.chaos_phases.specs.LoopLetters.{no_layout}
-use Rattle.chaos_reach.specs.Accepted.{IsDealt, IsLaidOut, IsLayout}
+use Rattle.fd_program.specs.Met.{no_layout}
+use Rattle.inspect_uses.specs.Accepted.{IsDealt, IsLaidOut, IsLayout}
 use Rattle.chaos_records.specs.Keeping.{Keeps, first_setting, setting_at, setting_in}
 use Rattle.chaos_records.specs.Numbering.{get_below}
 use Rattle.chaos_records.specs.declared.records.Records.{Records}
 use Rattle.chaos_facts.specs.Facts.{facts_in, layout_in, layouts_in, sound_form, sound_shape}
-use Rattle.chaos_facts.specs.FactsLaws.{FactsAreAccepted, FactsAreExact, IsStepIn, StepsAreIn}
+use Rattle.chaos_facts.specs.FactsLaws.{FactsAreAccepted, FactsAreExact}
+use Rattle.fd_program.specs.StepLaws.{IsStepIn}
 
 -- ---- forms
 
@@ -65,21 +67,30 @@ forms_stay c (Distribute decomposition form ∷ past) d steps = by (decompositio
 
 -- ---- layouts
 
-same_layouts : (f g : ℕ × LayoutName → Layout) (a : ℕ) (ls : List LayoutName) → ((d : ℕ) (l : LayoutName) → d < a + length ls → f (d, l) ≡ g (d, l))
+same_layouts : (f g : ℕ × LayoutName → Layout) (a : ℕ) (ls : List LayoutName) → ((d : ℕ) (l : LayoutName) → d < a + length ls
+    → f (d, l) ≡ g (d, l))
     → map f (enumerate_from a ls) ≡ map g (enumerate_from a ls)
 same_layouts f g a [] same = refl
 same_layouts f g a (l ∷ ls) same =
     let rest = same_layouts f g (a + 1) ls (λ d x less. same d x (omega (arith, less))) in
     ap (λ y. y ∷ map f (enumerate_from (a + 1) ls)) (same a l (omega arith)) ∙ ap (λ more. g (a, l) ∷ more) rest
 
-setting_known : (c : Checked) (past : List Step) (r : Records) (d : ℕ) → Keeps c past r → d < length c.layouts → setting_in r d ≡ setting_at c past d
+setting_known : (c : Checked) (past : List Step) (r : Records) (d : ℕ) → Keeps c past r → d < length c.layouts
+    → setting_in r d ≡ setting_at c past d
 setting_known c past r d keeps less =
     ap (λ settings. unwrap_or (slice_get settings d) first_setting) keeps.settings
     ∙ ap (λ o. unwrap_or o first_setting) (get_below (setting_at c past) (length c.layouts) d less)
 
 pub facts_are_exact : FactsAreExact
 facts_are_exact c nodes rule past r site turn steps keeps =
-    ap (λ layouts. let f : LoopFacts = record { arrays = c.arrays; site = (facts_in c nodes rule r site turn).site; turn = turn; layouts = layouts; nodes = nodes; rule = rule } in f)
+    ap (λ layouts. let f : LoopFacts = record {
+      arrays = c.arrays;
+      site = (facts_in c nodes rule r site turn).site;
+      turn = turn;
+      layouts = layouts;
+      nodes = nodes;
+      rule = rule;
+    } in f)
     (same_layouts (layout_in r) (layout_at past) 0 c.layouts
     (λ d l less. ap (λ form. let x : Layout = record { extent = l.extent; form = form } in x)
     (ap (λ setting. sound_form setting.form) (setting_known c past r d keeps (omega (arith, less))) ∙ forms_stay c past d steps)))
@@ -115,8 +126,10 @@ layout_size r a (l ∷ ls) (suc d) = layout_size r (a + 1) ls d
 pub facts_are_accepted : FactsAreAccepted
 facts_are_accepted c nodes rule r site turn known some few there range = record {
   arrays = All-from_recursion (IsLaidOut (layouts_in c r)) c.arrays
-      (all_weaker (IsAligned c.layouts) (IsLaidOut (layouts_in c r)) laid c.arrays (recursion_from_All (IsAligned c.layouts) c.arrays known.arrays));
-  layouts = All-from_recursion IsLayout (layouts_in c r) (all_layouts r 0 c.layouts (recursion_from_All (λ (l : LayoutName). IsExtent l.extent) c.layouts known.layouts));
+      (all_weaker (IsAligned c.layouts) (IsLaidOut (layouts_in c r)) laid c.arrays
+      (recursion_from_All (IsAligned c.layouts) c.arrays known.arrays));
+  layouts = All-from_recursion IsLayout (layouts_in c r)
+      (all_layouts r 0 c.layouts (recursion_from_All (λ (l : LayoutName). IsExtent l.extent) c.layouts known.layouts));
   few_layouts = omega (arith, layout_count r 0 c.layouts, known.few_layouts);
   site = site_known (slice_get c.sites site) refl;
   range = range;
@@ -140,29 +153,3 @@ facts_are_accepted c nodes rule r site turn known some few there range = record 
     site_known : (o : Option Site) → slice_get c.sites site ≡ o → IsSite c.arrays (unwrap_or o no_site)
     site_known None e = absurd (within c.sites site there e)
     site_known (Some x) e = all_at (IsSite c.arrays) c.sites site x (recursion_from_All (IsSite c.arrays) c.sites known.sites) e
-
--- ---- the steps of a program
-
-statement_steps : (c : Checked) (body : List ℤ → ℕ → List Step) → ((variables : List ℤ) (inside : ℕ) → AllByRecursion (IsStepIn c) (body variables inside))
-    → (variables : List ℤ) (s : CheckedStatement) → IsStatementOf c s → AllByRecursion (IsStepIn c) (steps_of_statement c.sites body variables s)
-statement_steps c body known variables (statement.Distribute at d form) h = (h, tt)
-statement_steps c body known variables (statement.Print at array) h = (h, tt)
-statement_steps c body known variables (statement.Do at low high inside) h =
-    let turns = range_of (scalar_value variables low) (scalar_value variables high) in
-    all_flat_map (IsStepIn c) (λ k. body (variables ++ k ∷ []) inside) turns
-    (among_all (λ k. AllByRecursion (IsStepIn c) (body (variables ++ k ∷ []) inside)) turns (λ k a. known (variables ++ k ∷ []) inside))
-statement_steps c body known variables (statement.Forall site) h = (h, tt)
-
-all_steps : (c : Checked) (statements : List CheckedStatement) → AllByRecursion (IsStatementOf c) statements → (variables : List ℤ) (skip count : ℕ)
-    → AllByRecursion (IsStepIn c) (steps_of c.sites variables skip count statements)
-all_steps c [] known variables skip count = tt
-all_steps c (s ∷ rest) known variables (suc skip) count = all_steps c rest known.1 variables skip count
-all_steps c (s ∷ rest) known variables zero zero = tt
-all_steps c (s ∷ rest) known variables zero (suc count) =
-    let behind : List Step = steps_of c.sites variables (inside_of s) (count - inside_of s) rest in
-    all_append (IsStepIn c) (steps_of_statement c.sites (λ inner inside. steps_of c.sites inner 0 inside rest) variables s) behind
-    (statement_steps c (λ inner inside. steps_of c.sites inner 0 inside rest) (λ inner inside. all_steps c rest known.1 inner 0 inside) variables s known.0)
-    (all_steps c rest known.1 variables (inside_of s) (count - inside_of s))
-
-pub steps_are_in : StepsAreIn
-steps_are_in c known = all_steps c c.statements (recursion_from_All (IsStatementOf c) c.statements known.statements) [] 0 (length c.statements)

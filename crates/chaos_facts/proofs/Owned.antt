@@ -1,5 +1,6 @@
 -- The owners in a run of a checked program.
-use Rattle.std.proofs.Common.{◌≡◌, refl, ℕ, zero, suc, ◌+◌, ◌<◌, ◌==◌, Bool, true, false, List, [], ◌∷◌, length, map, Some, unwrap_or, ap, sym, subst, ◌∙◌, arith}
+use Rattle.std.proofs.Common.{◌≡◌, refl, ℕ, zero, suc, ◌+◌, ◌<◌, ◌==◌, Bool, true, false, List, [], ◌∷◌, length, map, Some, unwrap_or, ap}
+use Rattle.std.proofs.Common.{sym, subst, ◌∙◌, arith}
 use Rattle.std.specs.Prelude.{slice_get, if◌then◌else◌}
 use Rattle.std.specs.List.{AllByRecursion, enumerate_from}
 use Rattle.std.specs.Option.{option_map_or}
@@ -21,80 +22,19 @@ use Rattle.fd_program.specs.Stores.{FitsStore, array_at}
 use Rattle.fd_program.specs.declared.array.LayoutName.{LayoutName}
 use Rattle.fd_program.specs.declared.trace.Step.{Step}
 use Rattle.fd_program.specs.declared.trace.Step.TheVariants.{Distribute, Print, Forall}
-use Rattle.chaos_phases.specs.LoopLetters.{no_layout}
-use Rattle.chaos_reach.specs.Accepted.{IsDealtBy, IsOwned}
-use Rattle.chaos_facts.specs.FactsLaws.{IsStepIn, RunHasOwners, RunKeepsExtents}
-
-pub some_at : {A : Type 0} (xs : List A) (k : ℕ) → k < length xs → (x : A) × (slice_get xs k ≡ Some x)
-some_at [] k h = absurd (omega (arith, h))
-some_at (x ∷ xs) zero h = (x, refl)
-some_at (x ∷ xs) (suc k) h = some_at xs k (omega (arith, h))
-
-at_enumerated : {B : Type 0} (f : ℕ × LayoutName → B) (z : B) (a : ℕ) (ls : List LayoutName) (k : ℕ) (l : LayoutName) → slice_get ls k ≡ Some l
-    → unwrap_or (slice_get (map f (enumerate_from a ls)) k) z ≡ f (a + k, l)
-at_enumerated f z a [] k l e = cc
-at_enumerated f z a (x ∷ ls) zero l e =
-    let same : x ≡ l = cc in
-    let nought : a ≡ a + 0 = omega arith in
-    ap (λ y. f (a, y)) same ∙ ap (λ d. f (d, l)) nought
-at_enumerated f z a (x ∷ ls) (suc k) l e =
-    let later : a + 1 + k ≡ a + suc k = omega arith in
-    at_enumerated f z (a + 1) ls k l e ∙ ap (λ d. f (d, l)) later
-
--- a form by a map is by an array of the decomposition's extent, and the steps before it are a run's
-abbrev IsFormThere : Scene → ℕ → StepForm × List Step → Type 0
-IsFormThere s d (Regular shape, before) = Unit {0}
-IsFormThere s d (Map array, before) = (array < length s.checked.arrays) × ((array_at s.checked.arrays array).extent ≡ layout_extent s.checked.layouts d) × IsHistory s before
-
-form_there : (s : Scene) (past : List Step) (d : ℕ) → IsHistory s past → AllByRecursion (IsStepIn s.checked) past → IsFormThere s d (form_set past d)
-form_there s [] d history steps = tt
-form_there s (Print array ∷ past) d history steps = form_there s past d history.1 steps.1
-form_there s (Forall site turn ∷ past) d history steps = form_there s past d history.1 steps.1
-form_there s (Distribute decomposition form ∷ past) d history steps = by (decomposition == d) refl (form_there s past d history.1 steps.1)
-  where
-    here : (form : StepForm) → IsFormOf s.checked.arrays s.checked.layouts d form → IsFormThere s d (form, past)
-    here (Regular shape) h = tt
-    here (Map array) h = (h.0, h.1, history.1)
-
-    by : (b : Bool) → (decomposition == d) ≡ b → IsFormThere s d (form_set past d) → IsFormThere s d (if b then (form, past) else form_set past d)
-    by true e rest = here form (subst (λ k. IsFormOf s.checked.arrays s.checked.layouts k form) (eqb-true decomposition d e) steps.0.1)
-    by false e rest = rest
-
-length_by : (s : Scene) → FitsStore s.checked.arrays (store_at s []) → (d extent : ℕ) (set : StepForm × List Step) → layout_extent s.checked.layouts d ≡ extent
-    → IsFormThere s d set → length (owners_by s extent set) ≡ extent
-length_by s fits d extent (Regular shape, before) e h = length-regular_owners shape extent s.nodes
-length_by s fits d extent (Map array, before) e h =
-    length-map (list_at (store_at s before) array) (λ v. remainder_of v s.nodes)
-    ∙ (length-list_at s.checked.arrays (store_at s before) array (run_keeps_lengths s before h.2 fits) h.0).1
-    ∙ h.1
-    ∙ e
+use Rattle.fd_program.specs.Met.{no_layout}
+use Rattle.inspect_uses.specs.Accepted.{IsDealtBy, IsOwned}
+use Rattle.fd_program.specs.ListLaws.{or_none, some_at}
+use Rattle.fd_program.specs.OwnedLaws.{at_enumerated, extent_found, length_owners, owners_found}
+use Rattle.fd_program.specs.StepLaws.{steps_of_in}
+use Rattle.chaos_facts.specs.FactsLaws.{RunHasOwners, RunKeepsExtents}
 
 dealt_by : (s : Scene) (extent : ℕ) (set : StepForm × List Step) → IsDealtBy set.0 extent s.nodes (owners_by s extent set)
 dealt_by s extent (Regular shape, before) = refl
 dealt_by s extent (Map array, before) = tt
 
-or_none : {A : Type 0} (P : A → Type 0) (xs : List A) (k : ℕ) (d : A) → P d → AllByRecursion P xs → P (unwrap_or (slice_get xs k) d)
-or_none P [] k d h all = h
-or_none P (x ∷ xs) zero d h all = all.0
-or_none P (x ∷ xs) (suc k) d h all = or_none P xs k d h all.1
-
-owners_found : (s : Scene) (past : List Step) (d : ℕ) (l : LayoutName) → slice_get s.checked.layouts d ≡ Some l
-    → list_at (owners_at s past) d ≡ owners_by s l.extent (form_set past d)
-owners_found s past d l e =
-    let nought : 0 + d ≡ d = omega arith in
-    at_enumerated (λ (pair : ℕ × LayoutName). owners_by s pair.1.extent (form_set past pair.0)) [] 0 s.checked.layouts d l e
-    ∙ ap (λ k. owners_by s l.extent (form_set past k)) nought
-
-pub extent_found : (ls : List LayoutName) (d : ℕ) (l : LayoutName) → slice_get ls d ≡ Some l → layout_extent ls d ≡ l.extent
-extent_found ls d l e = ap (λ o. option_map_or (λ (l : LayoutName). l.extent) o 0) e
-
 pub run_keeps_extents : RunKeepsExtents
-run_keeps_extents s past d run less =
-    let found = some_at s.checked.layouts d less in
-    let extent = extent_found s.checked.layouts d found.0 found.1 in
-    ap length (owners_found s past d found.0 found.1)
-    ∙ length_by s run.fits d found.0.extent (form_set past d) extent (form_there s past d run.history run.steps)
-    ∙ sym extent
+run_keeps_extents s past d run less = length_owners s past d run.fits run.history (steps_of_in s.checked past run.steps) less
 
 layouts_count : (past : List Step) (a : ℕ) (ls : List LayoutName) → length (map (layout_at past) (enumerate_from a ls)) ≡ length ls
 layouts_count past a [] = refl
@@ -104,11 +44,14 @@ pub run_has_owners : RunHasOwners
 run_has_owners s past site turn run d less =
     let found = some_at s.checked.layouts d (omega (arith, less, layouts_count past 0 s.checked.layouts)) in
     let nought : 0 + d ≡ d = omega arith in
-    let layout = at_enumerated (layout_at past) no_layout 0 s.checked.layouts d found.0 found.1 ∙ ap (λ k. layout_at past (k, found.0)) nought in
+    let layout = at_enumerated (layout_at past) no_layout 0 s.checked.layouts d found.0 found.1
+    ∙ ap (λ k. layout_at past (k, found.0)) nought in
     subst (λ l. IsOwned s.nodes l (list_at (owners_at s past) d)) (sym layout)
     (record {
-      elements = run_keeps_extents s past d run (omega (arith, less, layouts_count past 0 s.checked.layouts)) ∙ extent_found s.checked.layouts d found.0 found.1;
+      elements = run_keeps_extents s past d run (omega (arith, less, layouts_count past 0 s.checked.layouts))
+          ∙ extent_found s.checked.layouts d found.0 found.1;
       each = All-from_recursion (λ o. o < s.nodes) (list_at (owners_at s past) d)
           (or_none (λ list. AllByRecursion (λ o. o < s.nodes) list) (owners_at s past) d [] tt (owners_at-below s past run.some_nodes));
-      form = subst (IsDealtBy (form_set past d).0 found.0.extent s.nodes) (sym (owners_found s past d found.0 found.1)) (dealt_by s found.0.extent (form_set past d));
+      form = subst (IsDealtBy (form_set past d).0 found.0.extent s.nodes) (sym (owners_found s past d found.0 found.1))
+          (dealt_by s found.0.extent (form_set past d));
     })

@@ -1,30 +1,20 @@
 -- Facts by the records are those of the run, and those of a checked program.
 use Rattle.std.specs.Prelude.{◌≡◌, ◌<◌, ◌≤◌, ◌≤ℤ◌, ℕ, List, [], length}
 use Rattle.std.specs.List.{AllByRecursion}
-use Rattle.chaos_reach.specs.Accepted.{AreOwners, IsAccepted}
+use Rattle.inspect_uses.specs.Accepted.{AreOwners, IsAccepted}
 use Rattle.chaos_records.specs.Keeping.{Keeps}
 use Rattle.chaos_records.specs.declared.records.Records.{Records}
-use Rattle.fd_program.specs.Checks.{IsChecked, IsFormOf, layout_extent}
+use Rattle.fd_program.specs.Checks.{IsChecked, layout_extent}
 use Rattle.fd_words.specs.Lists.{list_at}
 use Rattle.fd_program.specs.Layouts.{Scene, facts_at, loop_at, owners_at, store_at}
 use Rattle.fd_program.specs.RunLaws.{IsHistory}
 use Rattle.fd_program.specs.Stores.{FitsStore}
-use Rattle.fd_program.specs.Trace.{trace_of}
+use Rattle.fd_program.specs.StepLaws.{IsStepIn}
 use Rattle.fd_program.specs.declared.checked.Checked.{Checked}
 use Rattle.fd_program.specs.declared.loop_facts.HomeRule.{HomeRule}
 use Rattle.fd_program.specs.declared.trace.LoopTurn.{LoopTurn}
 use Rattle.fd_program.specs.declared.trace.Step.{Step}
-use Rattle.fd_program.specs.declared.trace.Step.TheVariants.{Distribute, Print, Forall}
 use Rattle.chaos_facts.specs.Facts.{facts_in}
-
--- a step that the program can take
-abbrev pub IsStepIn : Checked → Step → Type 0
-IsStepIn c (Distribute d form) = (d < length c.layouts) × IsFormOf c.arrays c.layouts d form
-IsStepIn c (Print array) = array < length c.arrays
-IsStepIn c (Forall site turn) = site < length c.sites
-
-abbrev pub StepsAreIn : Type 0
-StepsAreIn = (c : Checked) → IsChecked c → AllByRecursion (IsStepIn c) (trace_of c)
 
 abbrev pub FactsAreExact : Type 0
 FactsAreExact =
@@ -44,7 +34,8 @@ pub record IsRun (s : Scene) (past : List Step) : Type 0 where
   pub steps : AllByRecursion (IsStepIn s.checked) past
 
 abbrev pub RunHasOwners : Type 0
-RunHasOwners = (s : Scene) (past : List Step) (site : ℕ) (turn : LoopTurn) → IsRun s past → AreOwners (loop_at s past site turn) (owners_at s past)
+RunHasOwners = (s : Scene) (past : List Step) (site : ℕ) (turn : LoopTurn) → IsRun s past
+    → AreOwners (loop_at s past site turn) (owners_at s past)
 
 abbrev pub RunKeepsExtents : Type 0
 RunKeepsExtents = (s : Scene) (past : List Step) (d : ℕ) → IsRun s past → d < length s.checked.layouts

@@ -1,47 +1,14 @@
 ghost use Rattle.std.specs.Prelude.{◌≡◌, ◌++◌, ◌∷◌, [], IfOk, OnOk};
-ghost use Rattle.fd_program.specs.declared.body.CheckedExpr as expr;
-ghost use Rattle.fd_program.specs.declared.scalar.CheckedScalar as scalar;
 
 use fd_program::{
     CheckedBody, CheckedBodyList, CheckedExpr, CheckedScalar, CheckedScalars, CheckedSubscript,
     CheckedTerm, CheckedTerms, Reference, References, Site,
 };
-use fd_syntax::Arith;
-use fd_words::{Memory, SourcePlace};
-use sqlite_items::{Boxed, Items};
+use fd_words::Memory;
+use sqlite_items::Items;
 use std::alloc::Global;
 
 // ---- scalars
-
-fn negated_scalar(
-    alloc: Global,
-    at: SourcePlace,
-    inner: CheckedScalar,
-) -> Result<CheckedScalar, Memory>
-    ensures { IfOk result (λ s. s ≡ scalar.Negate at inner) }
-{
-    let inner = Boxed::new(alloc, inner)?;
-    Ok(CheckedScalar::Negate { at, inner })
-}
-
-fn joined_scalars(
-    alloc: Global,
-    op: Arith,
-    at: SourcePlace,
-    left: CheckedScalar,
-    right: CheckedScalar,
-) -> Result<CheckedScalar, Memory>
-    ensures { IfOk result (λ s. s ≡ scalar.Binary op at left right) }
-{
-    let left = Boxed::new(alloc, left)?;
-    let right = Boxed::new(alloc, right)?;
-    Ok(CheckedScalar::Binary {
-        op,
-        at,
-        left,
-        right,
-    })
-}
 
 /// An equal scalar.
 pub fn copy_scalar(alloc: Global, scalar: &CheckedScalar) -> Result<CheckedScalar, Memory>
@@ -58,7 +25,7 @@ pub fn copy_scalar(alloc: Global, scalar: &CheckedScalar) -> Result<CheckedScala
         }),
         CheckedScalar::Negate { at, inner } => {
             let inner = copy_scalar(alloc, inner.get())?;
-            negated_scalar(alloc, *at, inner)
+            CheckedScalar::negate(alloc, *at, inner)
         }
         CheckedScalar::Binary {
             op,
@@ -68,7 +35,7 @@ pub fn copy_scalar(alloc: Global, scalar: &CheckedScalar) -> Result<CheckedScala
         } => {
             let left = copy_scalar(alloc, left.get())?;
             let right = copy_scalar(alloc, right.get())?;
-            joined_scalars(alloc, *op, *at, left, right)
+            CheckedScalar::join(alloc, *op, *at, left, right)
         }
     }
 }
@@ -158,26 +125,6 @@ fn copy_references(alloc: Global, references: &[Reference]) -> Result<References
 
 // ---- bodies
 
-fn negated_expr(alloc: Global, inner: CheckedExpr) -> Result<CheckedExpr, Memory>
-    ensures { IfOk result (λ e. e ≡ expr.Negate inner) }
-{
-    let inner = Boxed::new(alloc, inner)?;
-    Ok(CheckedExpr::Negate(inner))
-}
-
-fn joined_exprs(
-    alloc: Global,
-    op: Arith,
-    left: CheckedExpr,
-    right: CheckedExpr,
-) -> Result<CheckedExpr, Memory>
-    ensures { IfOk result (λ e. e ≡ expr.Binary op left right) }
-{
-    let left = Boxed::new(alloc, left)?;
-    let right = Boxed::new(alloc, right)?;
-    Ok(CheckedExpr::Binary { op, left, right })
-}
-
 fn copy_expr(alloc: Global, expr: &CheckedExpr) -> Result<CheckedExpr, Memory>
     ensures { IfOk result (λ e. e ≡ expr.now) }
 {
@@ -188,12 +135,12 @@ fn copy_expr(alloc: Global, expr: &CheckedExpr) -> Result<CheckedExpr, Memory>
         CheckedExpr::Read(number) => Ok(CheckedExpr::Read(*number)),
         CheckedExpr::Negate(inner) => {
             let inner = copy_expr(alloc, inner.get())?;
-            negated_expr(alloc, inner)
+            CheckedExpr::negate(alloc, inner)
         }
         CheckedExpr::Binary { op, left, right } => {
             let left = copy_expr(alloc, left.get())?;
             let right = copy_expr(alloc, right.get())?;
-            joined_exprs(alloc, *op, left, right)
+            CheckedExpr::join(alloc, *op, left, right)
         }
     }
 }

@@ -1,5 +1,6 @@
 //! Laws of the definitions. Each function does nothing; its contract is the law.
-ghost use Rattle.chaos_facts.specs.FactsLaws.{FactsAreAccepted, FactsAreExact, RunHasOwners, RunKeepsExtents, StepsAreIn};
+ghost use Rattle.chaos_facts.specs.FactsLaws.{FactsAreAccepted, FactsAreExact, RunHasOwners, RunKeepsExtents};
+ghost use Rattle.fd_program.specs.StepLaws.{StepsAreIn};
 
 /// What is made from the records are the facts of the execution, and they are those of a checked program;
 /// and the steps of a program are steps that it can take.

@@ -1,5 +1,6 @@
 -- An element that is entered: what the table is seen as.
-use Rattle.std.proofs.Common.{◌≡◌, ℕ, ◌<◌, max, true, false, cond, List, [], ◌∷◌, ◌++◌, length, Option, Some, None, refl, ap, sym, subst, ◌∙◌, arith, length-append}
+use Rattle.std.proofs.Common.{◌≡◌, ℕ, ◌<◌, max, true, false, cond, List, [], ◌∷◌, ◌++◌, length, Option, Some, None, refl, ap, sym, subst}
+use Rattle.std.proofs.Common.{◌∙◌, arith, length-append}
 use Rattle.std.specs.Prelude.{nat_eq, slice_get, unwrap_or, ◌≢◌, if◌then◌else◌, MatchOption}
 use Rattle.std.specs.List.{AllByRecursion, IsDistinct}
 use Rattle.std.specs.Map.{lookup, keys_of, update}
@@ -21,23 +22,27 @@ not_None x e = subst (λ o. elim o as (λ _. Type 0) [ None ↦ ⊥ | Some y ↦
 pub inserted-new : (es : List (ℕ × Held)) (k : ℕ) (v : Held) → lookup (nat_eq k) es ≡ None → insert_entry nat_eq es k v ≡ es ++ (k, v) ∷ []
 inserted-new [] k v none = refl
 inserted-new (e ∷ es) k v none =
-    elim (nat_eq k e.0) as (λ b. cond b (Some e.1) (lookup (nat_eq k) es) ≡ None → (if b then (e.0, v) ∷ es else e ∷ insert_entry nat_eq es k v) ≡ e ∷ (es ++ (k, v) ∷ [])) [
+    elim (nat_eq k e.0) as (λ b. cond b (Some e.1) (lookup (nat_eq k) es) ≡ None
+    → (if b then (e.0, v) ∷ es else e ∷ insert_entry nat_eq es k v) ≡ e ∷ (es ++ (k, v) ∷ [])) [
       | true ↦ λ n. absurd (not_None e.1 n)
       | false ↦ λ n. ap (λ t. e ∷ t) (inserted-new es k v n)
     ] none
 
-module _ (es : List (ℕ × Held)) (p : Slots) (m : Stamps) (view : ◌≡◌ {A = Stamps} (record { held = fin.from_entries {R = nat_cmp} es; peak = length p.holders }) m) where
+module _ (es : List (ℕ × Held)) (p : Slots) (m : Stamps)
+    (view : ◌≡◌ {A = Stamps} (record { held = fin.from_entries {R = nat_cmp} es; peak = length p.holders }) m) where
   pub got : (q : ℕ) → fin.get m.held q ≡ lookup (nat_eq q) es
   got q = ap (λ (s : Stamps). fin.get s.held q) (sym view) ∙ seen es q
 
-  pub entered-held : (more : List (ℕ × Held)) (k : ℕ) (v : Held) (place : Place) (stamp slot : ℕ) (o : Option Held) → lookup (nat_eq k) es ≡ o → v ≡ entered o place stamp slot
+  pub entered-held : (more : List (ℕ × Held)) (k : ℕ) (v : Held) (place : Place) (stamp slot : ℕ) (o : Option Held)
+      → lookup (nat_eq k) es ≡ o → v ≡ entered o place stamp slot
       → ((q : ℕ) → lookup (nat_eq q) more ≡ update nat_eq (λ x. lookup (nat_eq x) es) k (Some v) q)
       → fin.from_entries {R = nat_cmp} more ≡ fin.insert m.held k (entered (fin.get m.held k) place stamp slot)
   entered-held more k v place stamp slot o found is updates =
       seen-put es more k v updates ∙ ap (λ (s : Stamps). fin.insert s.held k v) view
       ∙ ap (fin.insert m.held k) (is ∙ ap (λ o. entered o place stamp slot) (sym (got k ∙ found)))
 
-  pub slot-again : (k : ℕ) (h : Held) → lookup (nat_eq k) es ≡ Some h → MatchOption (fin.get m.held k) (IsFree m.held h.slot) (λ x. h.slot ≡ x.slot)
+  pub slot-again : (k : ℕ) (h : Held) → lookup (nat_eq k) es ≡ Some h → MatchOption (fin.get m.held k) (IsFree m.held h.slot)
+      (λ x. h.slot ≡ x.slot)
   slot-again k h found = subst (λ o. MatchOption o (IsFree m.held h.slot) (λ x. h.slot ≡ x.slot)) (sym (got k ∙ found)) refl
 
   pub below-again : (k : ℕ) (h : Held) → lookup (nat_eq k) es ≡ Some h → IsKept es p → h.slot < length p.holders
@@ -45,7 +50,8 @@ module _ (es : List (ℕ × Held)) (p : Slots) (m : Stamps) (view : ◌≡◌ {A
       let at = found-all (λ e. slice_get p.holders e.1.slot ≡ Some e.0) es k h found kept.holders in
       slice_get_within p.holders h.slot at.0 at.1
 
-  pub peak-again : (more : List (ℕ × Held)) → IsDistinct nat_eq (keys_of more) → IsKept more p → length p.holders ≡ max m.peak (fin.len (fin.from_entries {R = nat_cmp} more))
+  pub peak-again : (more : List (ℕ × Held)) → IsDistinct nat_eq (keys_of more) → IsKept more p
+      → length p.holders ≡ max m.peak (fin.len (fin.from_entries {R = nat_cmp} more))
   peak-again more unique kept =
       let same = ap (λ (s : Stamps). s.peak) view in
       let count = kept-count more p kept in
@@ -55,7 +61,8 @@ module _ (es : List (ℕ × Held)) (p : Slots) (m : Stamps) (view : ◌≡◌ {A
   free-when : (slot : ℕ) → AllByRecursion (λ (e : ℕ × Held). e.1.slot ≢ slot) es → IsFree m.held slot
   free-when slot all q h found = (found-all (λ (e : ℕ × Held). e.1.slot ≢ slot) es q h (sym (got q) ∙ found) all).1
 
-  pub slot-fresh : (k slot : ℕ) → lookup (nat_eq k) es ≡ None → slot ≡ next_slot p → IsKept es p → MatchOption (fin.get m.held k) (IsFree m.held slot) (λ x. slot ≡ x.slot)
+  pub slot-fresh : (k slot : ℕ) → lookup (nat_eq k) es ≡ None → slot ≡ next_slot p → IsKept es p
+      → MatchOption (fin.get m.held k) (IsFree m.held slot) (λ x. slot ≡ x.slot)
   slot-fresh k slot none at kept =
       subst (λ o. MatchOption o (IsFree m.held slot) (λ x. slot ≡ x.slot)) (sym (got k ∙ none))
       (subst (λ s. IsFree m.held s) (sym at) (free-when (next_slot p) (fresh-kept es p kept)))
@@ -88,12 +95,14 @@ module _ (es : List (ℕ × Held)) (p : Slots) (m : Stamps) (view : ◌≡◌ {A
   same_Some : {X : Type 0} (x y : X) → Some x ≡ Some y → x ≡ y
   same_Some x y e = ap (λ o. unwrap_or o x) e
 
-  pub free-dead : (slot element : ℕ) → IsKept es p → slice_get p.holders slot ≡ Some element → lookup (nat_eq element) es ≡ None → IsFree m.held slot
+  pub free-dead : (slot element : ℕ) → IsKept es p → slice_get p.holders slot ≡ Some element → lookup (nat_eq element) es ≡ None
+      → IsFree m.held slot
   free-dead slot element kept holds none q h found at =
       let same : q ≡ element = same_Some q element (sym (same-holder q slot h kept found at) ∙ holds) in
       not_None h (sym found ∙ ap (fin.get m.held) same ∙ got element ∙ none)
 
-  pub free-other : (slot element : ℕ) (held : Held) → IsKept es p → slice_get p.holders slot ≡ Some element → lookup (nat_eq element) es ≡ Some held → held.slot ≢ slot → IsFree m.held slot
+  pub free-other : (slot element : ℕ) (held : Held) → IsKept es p → slice_get p.holders slot ≡ Some element → lookup (nat_eq element) es
+      ≡ Some held → held.slot ≢ slot → IsFree m.held slot
   free-other slot element held kept holds here other q h found at =
       let same : q ≡ element = same_Some q element (sym (same-holder q slot h kept found at) ∙ holds) in
       let it : h ≡ held = same_Some h held (sym found ∙ ap (fin.get m.held) same ∙ got element ∙ here) in
@@ -107,7 +116,8 @@ module _ (es : List (ℕ × Held)) (p : Slots) (m : Stamps) (view : ◌≡◌ {A
       let same = ap (λ (s : Stamps). fin.len s.held) view in
       record {
         below = λ q h found. subst (λ n. h.slot < n) peak (below-again q h (sym (got q) ∙ found) kept);
-        apart = λ q r h k found there at. same_Some q r (sym (same-holder q k.slot h kept found at) ∙ same-holder r k.slot k kept there refl);
+        apart = λ q r h k found there at. same_Some q r (sym (same-holder q k.slot h kept found at)
+            ∙ same-holder r k.slot k kept there refl);
         stamped = λ q h found. found-at (λ e. e.1.mask ≢ 0) es q h (sym (got q) ∙ found) kept.masks;
         few = omega (arith, peak, count, len, same);
       }

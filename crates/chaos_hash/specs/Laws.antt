@@ -16,7 +16,8 @@ pub record IsStill (o : Option Held) (place : Place) (slot stamp : ℕ) : Type 0
 
 abbrev pub StaysWhenEntered : Type 0
 StaysWhenEntered = (m : Entries) (q stamp : ℕ) (h : Held) → fin.get m q ≡ Some h → bit_at h.mask stamp ≡ 1
-    → (element : ℕ) (place : Place) (other slot : ℕ) → IsStill (fin.get (fin.insert m element (entered (fin.get m element) place other slot)) q) h.place h.slot stamp
+    → (element : ℕ) (place : Place) (other slot : ℕ)
+    → IsStill (fin.get (fin.insert m element (entered (fin.get m element) place other slot)) q) h.place h.slot stamp
 
 abbrev pub StaysWhenCleared : Type 0
 StaysWhenCleared = (h : Held) (stamp other : ℕ) → stamp < 128 → other < 128 → stamp ≢ other → bit_at h.mask stamp ≡ 1

@@ -1,5 +1,6 @@
 -- Stamped entries.
-use Rattle.std.specs.Prelude.{◌≡◌, ℕ, ℤ, pos, zero, suc, ◌*◌, ◌%◌, ◌^◌, ◌<◌, ◌≤◌, ◌==◌, ◌≢◌, Bool, not, if◌then◌else◌, List, [], ◌∷◌, ◌++◌, length, map, filter, slice_get, Option, Some, None, IsPermutation}
+use Rattle.std.specs.Prelude.{◌≡◌, ℕ, ℤ, pos, zero, suc, ◌*◌, ◌%◌, ◌^◌, ◌<◌, ◌≤◌, ◌==◌, ◌≢◌, Bool, not, if◌then◌else◌, List, [], ◌∷◌, ◌++◌}
+use Rattle.std.specs.Prelude.{length, map, filter, slice_get, Option, Some, None, IsPermutation}
 use Rattle.std.specs.List.{flat_map, AllByRecursion}
 use Rattle.std.specs.Int.{w128, bit_at, bit_not}
 use Rattle.std.specs.Int.RustNames.{bit_and, bit_or}
@@ -44,7 +45,8 @@ held_code = code_by (ℕ × (ℕ × (ℕ × ℕ))) (coded× coded_ℕ (coded× c
     (λ p. record { place = record { owner = p.0; local = p.1.0 }; mask = p.1.1.0; slot = p.1.1.1 }) (λ _. refl)
 
 abbrev pub stamps_code : Coded Stamps
-stamps_code = code_by (Entries × ℕ) (coded× (fin.code coded_ℕ held_code) coded_ℕ) (λ s. (s.held, s.peak)) (λ p. record { held = p.0; peak = p.1 }) (λ _. refl)
+stamps_code = code_by (Entries × ℕ) (coded× (fin.code coded_ℕ held_code) coded_ℕ) (λ s. (s.held, s.peak))
+    (λ p. record { held = p.0; peak = p.1 }) (λ _. refl)
 
 -- what an element has once it is entered: its own place and slot if it lives, else these
 abbrev pub entered : Option Held → Place → ℕ → ℕ → Held

@@ -69,7 +69,8 @@ impl StampTable {
     pub fn enter(&mut self, element: u64, place: Place, stamp: u32) -> Result<u32, Memory>
         requires stamp { stamp < 128 }
         requires few { fin.len self.old.held < 4294967295 }
-        ensures entered { IfOk result (λ slot. self.new.held ≡ fin.insert self.old.held element (entered (fin.get self.old.held element) place stamp slot)) }
+        ensures entered { IfOk result (λ slot. self.new.held ≡ fin.insert self.old.held element
+            (entered (fin.get self.old.held element) place stamp slot)) }
         ensures slot { IfOk result (λ slot. MatchOption (fin.get self.old.held element) (IsFree self.old.held slot) (λ h. slot ≡ h.slot)) }
         ensures below { IfOk result (λ slot. slot < self.new.peak) }
         ensures peak { OnOk result (self.new.peak ≡ max self.old.peak (fin.len self.new.held)) }

@@ -1,5 +1,6 @@
 //! The hash table's part: entries in the order of the table.
-ghost use Rattle.std.specs.Prelude.{◌≡◌, ◌<◌, ◌≤◌, ◌+◌, ◌++◌, ◌∷◌, [], length, map, filter, slice_get, nat_eq, is_some, Option, Some, None, OnOk, OnErr, IfOk, IsSome};
+ghost use Rattle.std.specs.Prelude.{◌≡◌, ◌<◌, ◌≤◌, ◌+◌, ◌++◌, ◌∷◌, [], length, map, filter, slice_get, nat_eq, is_some, Option, Some, None};
+ghost use Rattle.std.specs.Prelude.{OnOk, OnErr, IfOk, IsSome};
 ghost use Rattle.std.specs.FinMap as fin;
 ghost use Rattle.std.specs.Ordering.{nat_cmp};
 ghost use Rattle.indexmap.specs.IndexMap.{get, spare, insert_entry, index_map_len, Updates, IsUnique};
@@ -21,7 +22,8 @@ pub(crate) fn make_room(table: &mut Table) -> Result<(), Memory>
     ensures room { OnOk result (0 < spare table.new) }
 {
     let _count = table.len();
-    table.reserve(1).map_err(|_| Memory)
+    table.reserve(1)?;
+    Ok(())
 }
 
 /// Puts an entry, in place of the element's own if it has one.
@@ -94,7 +96,7 @@ fn note(found: &mut Vec<(u64, Held)>, element: u64, held: Held, mask: u128) -> R
     ensures { OnOk result (found.new.items ≡ found.old.items ++ chosen_list mask ((element, held) ∷ [])) }
 {
     if held.mask & mask != 0 {
-        found.push((element, held)).map_err(|_| Memory)?;
+        found.push((element, held))?;
     }
     Ok(())
 }
@@ -132,5 +134,6 @@ pub(crate) fn chosen_in_order(
 pub(crate) fn copy_table(table: &Table) -> Result<Table, Memory>
     ensures { IfOk result (λ copy. copy.entries ≡ table.now.entries) }
 {
-    table.clone().map_err(|_| Memory)
+    let copy = table.clone()?;
+    Ok(copy)
 }

@@ -1,5 +1,6 @@
 -- The parts of all arrays, one after another.
-use Rattle.std.specs.Prelude.{◌≡◌, ◌≢◌, refl, ℕ, zero, suc, ◌==◌, ◌+◌, ◌<◌, ℤ, true, false, if◌then◌else◌, List, [], ◌∷◌, ◌++◌, drop, length}
+use Rattle.std.specs.Prelude.{◌≡◌, ◌≢◌, refl, ℕ, zero, suc, ◌==◌, ◌+◌, ◌<◌, ℤ, true, false, if◌then◌else◌, List, [], ◌∷◌, ◌++◌, drop}
+use Rattle.std.specs.Prelude.{length}
 use Rattle.std.proofs.Common.{ap, sym, ◌∙◌, arith, add-one, append-nil, append_assoc, get_or}
 use Rattle.fd_words.specs.Lists.{list_at}
 use Rattle.fd_program.specs.declared.array.ArrayFacts.{ArrayFacts}
@@ -31,7 +32,8 @@ drop_here (suc k) (y ∷ ys) x less e = drop_here k ys x (fewer k (length ys) le
     fewer k n h = omega arith
 
 -- an array of the decomposition
-pub parts_taken : (arrays : List ArrayFacts) (d : ℕ) (parts pieces : List (List ℤ)) (k n m : ℕ) (a : ArrayFacts) (lists new : List (List ℤ)) (list : List ℤ) (all : List (List ℤ))
+pub parts_taken : (arrays : List ArrayFacts) (d : ℕ) (parts pieces : List (List ℤ)) (k n m : ℕ) (a : ArrayFacts)
+    (lists new : List (List ℤ)) (list : List ℤ) (all : List (List ℤ))
     → k < length arrays → a ≡ get_or arrays k a → a.decomposition ≡ d → list ≡ list_at pieces n → new ≡ lists ++ list ∷ [] → m ≡ suc n
     → lists ++ parts_with (drop k arrays) d (drop k parts) (drop n pieces) ≡ all
     → new ++ parts_with (drop (k + 1) arrays) d (drop (k + 1) parts) (drop m pieces) ≡ all
@@ -50,7 +52,8 @@ parts_taken arrays d parts pieces k n m a lists new list all less here of one mo
     ∙ ap (λ l. l ++ rest) more ∙ append_assoc lists (list ∷ []) rest ∙ ap (λ l. lists ++ l) (sym step) ∙ before
 
 -- an array of another
-pub parts_kept : (arrays : List ArrayFacts) (d : ℕ) (parts pieces : List (List ℤ)) (k n : ℕ) (a : ArrayFacts) (lists new : List (List ℤ)) (list : List ℤ) (all : List (List ℤ))
+pub parts_kept : (arrays : List ArrayFacts) (d : ℕ) (parts pieces : List (List ℤ)) (k n : ℕ) (a : ArrayFacts) (lists new : List (List ℤ))
+    (list : List ℤ) (all : List (List ℤ))
     → k < length arrays → a ≡ get_or arrays k a → a.decomposition ≢ d → list ≡ list_at parts k → new ≡ lists ++ list ∷ []
     → lists ++ parts_with (drop k arrays) d (drop k parts) (drop n pieces) ≡ all
     → new ++ parts_with (drop (k + 1) arrays) d (drop (k + 1) parts) (drop n pieces) ≡ all

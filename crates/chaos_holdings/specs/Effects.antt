@@ -1,7 +1,7 @@
 -- What the end of a phase changes of what a node has.
 use Rattle.std.specs.Prelude.{ℕ, List, slice_set, Option, Some, None}
-use Rattle.chaos_prepare.specs.Tables.{dropped_in}
-use Rattle.chaos_run.specs.declared.kept.Kept.{Kept}
+use Rattle.plan_tables.specs.Tables.{dropped_in}
+use Rattle.plan_run.specs.declared.kept.Kept.{Kept}
 use Rattle.fd_program.specs.declared.checked.Checked.{Checked}
 use Rattle.chaos_holdings.specs.Keeping.{with_given_up}
 use Rattle.chaos_holdings.specs.declared.holdings.Holdings.{Holdings}

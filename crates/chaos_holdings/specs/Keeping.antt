@@ -7,8 +7,8 @@ use Rattle.fd_program.specs.Places.{decomposition_of}
 use Rattle.fd_program.specs.declared.array.ArrayFacts.{ArrayFacts}
 use Rattle.fd_program.specs.declared.checked.Checked.{Checked}
 use Rattle.fd_program.specs.declared.reference.Reference.{Reference}
-use Rattle.chaos_run.specs.TableLaws.{left_of_move}
-use Rattle.chaos_run.specs.declared.kept.Kept.{Kept}
+use Rattle.plan_run.specs.TableLaws.{left_of_move}
+use Rattle.plan_run.specs.declared.kept.Kept.{Kept}
 
 abbrev pub no_kept : Option Kept
 no_kept = None

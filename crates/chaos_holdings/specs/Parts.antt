@@ -7,4 +7,5 @@ use Rattle.fd_program.specs.declared.array.ArrayFacts.{ArrayFacts}
 abbrev pub parts_with : List ArrayFacts → ℕ → List (List ℤ) → List (List ℤ) → List (List ℤ)
 parts_with [] d parts pieces = []
 parts_with (a ∷ arrays) d parts pieces =
-    if a.decomposition == d then list_at pieces 0 ∷ parts_with arrays d (drop 1 parts) (drop 1 pieces) else list_at parts 0 ∷ parts_with arrays d (drop 1 parts) pieces
+    if a.decomposition == d then list_at pieces 0 ∷ parts_with arrays d (drop 1 parts) (drop 1 pieces) else list_at parts 0
+    ∷ parts_with arrays d (drop 1 parts) pieces

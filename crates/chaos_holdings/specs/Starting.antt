@@ -3,7 +3,7 @@ use Rattle.std.specs.Prelude.{◌≡◌, ℕ, ℤ, pos, List, length, map, repli
 use Rattle.chaos_dist.specs.Owners.{elements_on, regular_owners}
 use Rattle.chaos_dist.specs.declared.shape.Shape.TheVariants.{Block}
 use Rattle.fd_program.specs.declared.array.LayoutName.{LayoutName}
-use Rattle.chaos_prepare.specs.Tables.{no_table}
+use Rattle.plan_tables.specs.Tables.{no_table}
 use Rattle.chaos_records.specs.Keeping.{no_records}
 use Rattle.chaos_table.specs.declared.pages.Pages.{Pages}
 use Rattle.chaos_holdings.specs.Keeping.{no_kept}

@@ -1,16 +1,16 @@
 ghost use Rattle.std.specs.Prelude.{◌≡◌, slice_set, Some};
-ghost use Rattle.chaos_prepare.specs.Tables.{dropped_in};
+ghost use Rattle.plan_tables.specs.Tables.{dropped_in};
 ghost use Rattle.chaos_holdings.specs.Effects.{end_after, holdings_after, kept_with};
 ghost use Rattle.chaos_holdings.specs.Keeping.{with_given_up};
 
 use crate::holdings::Holdings;
 use crate::session::NodeEnd;
 use chaos_moving::Moved;
-use chaos_prepare::TableSet;
 use chaos_records::Records;
-use chaos_run::Kept;
 use fd_program::{Checked, Refused, SiteCount};
 use fd_words::NumberLists;
+use node_tables::TableSet;
+use plan_run::Kept;
 
 /// What the end of a phase changes beside the node's place.
 #[derive(Drop)]

@@ -1,9 +1,9 @@
-ghost use Rattle.std.specs.Prelude.{◌≡◌, ◌+◌, ◌<◌, ◌≤◌, ◌^◌, fold, IfOk};
+ghost use Rattle.std.specs.Prelude.{◌≡◌, ◌<◌, ◌≤◌, ◌^◌, fold, IfOk};
 ghost use Rattle.std.specs.Option.{option_copied};
 ghost use Rattle.fd_program.specs.Reports.{plus_count};
 ghost use Rattle.fd_program.specs.Trace.{site_at};
 ghost use Rattle.chaos_count.specs.Counting.{noted};
-ghost use Rattle.chaos_run.specs.StandLaws.{count_in};
+ghost use Rattle.plan_run.specs.StandLaws.{count_in};
 ghost use Rattle.chaos_holdings.specs.Executions.{counted_with, is_last, turn_in, turn_by};
 
 use chaos_count::note_writes;
@@ -11,7 +11,7 @@ use chaos_executing::counts_of;
 use chaos_records::Records;
 use chaos_sched::Prepared;
 use fd_program::{LoopTurn, Reference, Site, SiteCount, Step};
-use fd_words::Memory;
+use fd_words::{Memory, count_sum};
 use std::alloc::Global;
 
 /// Notes that an execution of a FORALL with these references changed the arrays of its targets.
@@ -32,7 +32,8 @@ pub fn records_of_execution(
     site: u32,
     execution: u64,
 ) -> Result<Records, Memory>
-    ensures noted { IfOk result (λ after. execution < 2 ^ 32 → after ≡ fold (noted execution) records.now (site_at sites.now site).references) }
+    ensures noted { IfOk result (λ after. execution < 2 ^ 32 → after ≡ fold (noted execution) records.now
+        (site_at sites.now site).references) }
     ensures late { IfOk result (λ after. 2 ^ 32 ≤ execution → after ≡ records.now) }
 {
     let mut after = records.copy(alloc)?;
@@ -69,12 +70,7 @@ pub fn count_at(counts: &[SiteCount], site: u32) -> SiteCount
 {
     match counts.get(site as usize) {
         Some(count) => *count,
-        None => SiteCount {
-            executed: 0,
-            inspected: 0,
-            gathered: 0,
-            scattered: 0,
-        },
+        None => SiteCount::none(),
     }
 }
 
@@ -94,19 +90,9 @@ pub fn counted(before: &SiteCount, prepared: &Prepared, inspects: bool) -> Resul
 {
     let (gathered, scattered) = counts_of(prepared)?;
     Ok(SiteCount {
-        executed: plus(before.executed, 1)?,
-        inspected: plus(before.inspected, u64::from(inspects))?,
-        gathered: plus(before.gathered, gathered)?,
-        scattered: plus(before.scattered, scattered)?,
+        executed: count_sum(before.executed, 1)?,
+        inspected: count_sum(before.inspected, u64::from(inspects))?,
+        gathered: count_sum(before.gathered, gathered)?,
+        scattered: count_sum(before.scattered, scattered)?,
     })
-}
-
-/// A sum; `Memory` where there would be 2^64 of something.
-fn plus(one: u64, other: u64) -> Result<u64, Memory>
-    ensures { IfOk result (λ sum. sum ≡ one + other) }
-{
-    match one.checked_add(other) {
-        Some(sum) => Ok(sum),
-        None => Err(Memory),
-    }
 }

@@ -9,12 +9,12 @@ ghost use Rattle.chaos_holdings.specs.Starting.{IsFirst, block_elements, no_page
 use crate::holdings::Holdings;
 use crate::kept_list::KeptList;
 use crate::session::Session;
-use chaos_asking::PageSet;
 use chaos_dist::{Regular, Shape};
-use chaos_prepare::TableSet;
 use chaos_records::Records;
 use fd_program::{LayoutNames, SiteCount, SiteCounts};
 use fd_words::{Memory, NumberLists, Numbers};
+use inspect_places::PageSet;
+use node_tables::TableSet;
 use sqlite_items::Items;
 use std::alloc::Global;
 
@@ -64,12 +64,7 @@ pub fn counts_of_none(alloc: Global, sites: usize) -> Result<SiteCounts, Memory>
 {
     let mut counts = Items::new(alloc);
     for _site in 0..sites {
-        counts.push(SiteCount {
-            executed: 0,
-            inspected: 0,
-            gathered: 0,
-            scattered: 0,
-        })?;
+        counts.push(SiteCount::none())?;
     }
     Ok(counts)
 }

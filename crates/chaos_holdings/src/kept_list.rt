@@ -1,15 +1,14 @@
 ghost use Rattle.std.specs.Prelude.{◌≡◌, replicate, slice_set, IfOk};
 ghost use Rattle.std.specs.Option.{option_copied, option_map};
 ghost use Rattle.std.specs.List.{list_any};
-ghost use Rattle.fd_program.specs.Places.{decomposition_of};
 ghost use Rattle.fd_program.specs.Trace.{site_at};
-ghost use Rattle.chaos_run.specs.TableLaws.{is_named_in, without_inspection};
+ghost use Rattle.plan_run.specs.TableLaws.{is_named_in, without_inspection};
 ghost use Rattle.chaos_holdings.specs.Keeping.{names_decomposition, no_kept, prepared_by, prepared_in, with_given_up};
 
-use chaos_run::Kept;
 use chaos_sched::Prepared;
-use fd_program::{ArrayFacts, Checked, Reference};
+use fd_program::{ArrayFacts, Checked, Reference, decomposition};
 use fd_words::Memory;
+use plan_run::Kept;
 use std::alloc::Global;
 use std::marker::Model;
 
@@ -21,7 +20,7 @@ pub struct KeptList {
 
 impl Model for KeptList {
     ghost use Rattle.std.specs.Prelude.{List, Option};
-    ghost use Rattle.chaos_run.specs.declared.kept.Kept.{Kept as AKept};
+    ghost use Rattle.plan_run.specs.declared.kept.Kept.{Kept as AKept};
 
     ghost Value = { List (Option AKept) };
 
@@ -44,16 +43,6 @@ fn prepared_of(kept: &Option<Kept>) -> Option<&Prepared>
     match kept {
         Some(kept) => kept.prepared.as_ref(),
         None => None,
-    }
-}
-
-/// The decomposition in which an array stands.
-fn decomposition(arrays: &[ArrayFacts], array: u32) -> u32
-    ensures { result ≡ decomposition_of arrays.now array }
-{
-    match arrays.get(array as usize) {
-        Some(facts) => facts.decomposition,
-        None => 0,
     }
 }
 

@@ -64,9 +64,11 @@ pub fn records_of_move(
     decomposition: u32,
     form: StepForm,
 ) -> Result<Records, Memory>
-    ensures moved { IfOk result (λ r. decomposition < length records.now.settings → (setting_in records.now decomposition).version <ℤ pos (2 ^ 32) → r ≡ noted_move records.now decomposition form) }
+    ensures moved { IfOk result (λ r. decomposition < length records.now.settings → (setting_in records.now decomposition).version <ℤ pos
+        (2 ^ 32) → r ≡ noted_move records.now decomposition form) }
     ensures absent { IfOk result (λ r. length records.now.settings ≤ decomposition → r ≡ records.now) }
-    ensures full { IfOk result (λ r. decomposition < length records.now.settings → pos (2 ^ 32) ≤ℤ (setting_in records.now decomposition).version → r ≡ records.now) }
+    ensures full { IfOk result (λ r. decomposition < length records.now.settings
+        → pos (2 ^ 32) ≤ℤ (setting_in records.now decomposition).version → r ≡ records.now) }
 {
     let mut after = records.copy(alloc)?;
     if (decomposition as usize) < records.layouts()

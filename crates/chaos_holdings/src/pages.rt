@@ -1,8 +1,8 @@
 ghost use Rattle.std.specs.Prelude.{◌≡◌, slice_set, IfOk};
 
-use chaos_asking::PageSet;
 use chaos_table::Pages;
 use fd_words::{Memory, Places};
+use inspect_places::PageSet;
 use sqlite_items::Items;
 use std::alloc::Global;
 

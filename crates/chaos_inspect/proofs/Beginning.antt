@@ -1,20 +1,22 @@
 -- Where an inspection begins.
-use Rattle.std.proofs.Common.{◌≡◌, ℕ, ◌+◌, ℤ, Bool, true, false, cond, List, [], ◌∷◌, ◌++◌, map, filter, Option, Some, None, refl, ap, sym, subst, ◌∙◌}
+use Rattle.std.proofs.Common.{◌≡◌, ℕ, ◌+◌, ℤ, Bool, true, false, cond, List, [], ◌∷◌, ◌++◌, map, filter, Option, Some, None, refl, ap, sym}
+use Rattle.std.proofs.Common.{subst, ◌∙◌}
 use Rattle.std.specs.Prelude.{◌&&◌, ◌||◌}
 use Rattle.std.specs.List.{flat_map, list_any, cons_option}
 use Rattle.fd_program.specs.Homes.{inspected_by}
 use Rattle.fd_program.specs.Stores.{number_at}
-use Rattle.fd_program.specs.Uses.{index_value, index_values, is_index, is_met, read_of, subscript_of, use_of, uses_from}
+use Rattle.fd_program.specs.Uses.{index_value, index_values, is_met, read_of, subscript_of, use_of, uses_from}
+use Rattle.fd_words.specs.Roles.{is_index}
 use Rattle.fd_program.specs.declared.loop_facts.LoopFacts.{LoopFacts}
 use Rattle.fd_program.specs.declared.reference.Reference.{Reference}
-use Rattle.chaos_asking.specs.Asks.{IsAsked}
-use Rattle.chaos_asking.specs.declared.asked.Asked.{Asked}
+use Rattle.inspect_places.specs.Asks.{IsAsked}
+use Rattle.inspect_places.specs.declared.asked.Asked.{Asked}
 use Rattle.chaos_hash.specs.Stamps.{Stamps}
-use Rattle.chaos_phases.specs.LoopLetters.{asks_places}
-use Rattle.chaos_phases.specs.declared.loop_phase.Asking.TheVariants.{Indexes}
-use Rattle.chaos_reach.specs.Accepted.{AreOwners, IsAccepted}
-use Rattle.chaos_reach.specs.Reached.{place_met}
-use Rattle.chaos_reach.specs.ReachedLaws.{values_at}
+use Rattle.plan_loop.specs.LoopLetters.{asks_places}
+use Rattle.plan_loop.specs.declared.loop_phase.Asking.TheVariants.{Indexes}
+use Rattle.inspect_uses.specs.Accepted.{AreOwners, IsAccepted}
+use Rattle.inspect_uses.specs.Reached.{place_met}
+use Rattle.inspect_uses.specs.ReachedLaws.{values_at}
 use Rattle.chaos_inspect.specs.Inspecting.{InHand, first_phase, first_stage, has_indexes, phase_first, phase_of}
 use Rattle.chaos_inspect.specs.Walking.{is_asked, spots_told, uses_through, uses_without}
 use Rattle.chaos_inspect.specs.declared.inspection.Inspection.{Inspection}
@@ -27,7 +29,8 @@ neither true b e = cc
 neither false b e = (refl, e)
 
 none_given : (f : LoopFacts) (store : List (List ℤ)) (i : ℤ) (place : ℕ) (before : Option ℤ) (references : List Reference)
-    → list_any (λ (r : Reference). is_index r.role) references ≡ false → index_values f.arrays store (uses_from f.arrays f.turn.adds store i place before references) ≡ []
+    → list_any (λ (r : Reference). is_index r.role) references ≡ false
+    → index_values f.arrays store (uses_from f.arrays f.turn.adds store i place before references) ≡ []
 none_given f store i place before [] none = refl
 none_given f store i place before (r ∷ rs) none =
     let u = use_of r i (place + 1) (subscript_of r.subscript i (number_at f.turn.adds place) before) in
@@ -36,10 +39,12 @@ none_given f store i place before (r ∷ rs) none =
     ap (λ b. cons_option (cond (b && is_met f.arrays u) (Some (read_of store u)) None) later) parts.0
     ∙ none_given f store i (place + 1) (index_value f.arrays store u) rs parts.1
 
-no_values : (f : LoopFacts) (store : List (List ℤ)) → list_any (λ (r : Reference). is_index r.role) f.site.references ≡ false → (is : List ℤ)
+no_values : (f : LoopFacts) (store : List (List ℤ)) → list_any (λ (r : Reference). is_index r.role) f.site.references ≡ false
+    → (is : List ℤ)
     → flat_map (values_at f store) is ≡ []
 no_values f store none [] = refl
-no_values f store none (i ∷ is) = ap (λ l. l ++ flat_map (values_at f store) is) (none_given f store i 0 None f.site.references none) ∙ no_values f store none is
+no_values f store none (i ∷ is) = ap (λ l. l ++ flat_map (values_at f store) is) (none_given f store i 0 None f.site.references none)
+    ∙ no_values f store none is
 
 -- what is asked for at these iterations
 abbrev pub Begun : LoopFacts → Asked → List ℤ → Type 0
@@ -55,24 +60,29 @@ pub record Begins (x : Inspection) (seeks has : Bool) : Type 0 where
   pub asked : seeks ≡ true → Begun x.facts x.asked x.mine
   pub spots : seeks ≡ false → x.spots ≡ spots_told x.facts Indexes [] (uses_without x.facts x.mine)
 
-pub hand_first : (x : Inspection) (owners : List (List ℕ)) (store : List (List ℤ)) (tables : List Stamps) (seeks has : Bool) → AreOwners x.facts owners → Begins x seeks has
+pub hand_first : (x : Inspection) (owners : List (List ℕ)) (store : List (List ℤ)) (tables : List Stamps) (seeks has : Bool)
+    → AreOwners x.facts owners → Begins x seeks has
     → InHand x owners store tables (first_stage seeks has)
 hand_first x owners store tables true has owned h = (
   subst (λ us. IsAsked x.facts us x.asked)
-      (ap (λ is. filter (is_asked x.facts Indexes) (uses_through x.facts is [])) h.mine ∙ indexes_wanted x.facts owners store x.me h.accepted) (h.asked refl),
+      (ap (λ is. filter (is_asked x.facts Indexes) (uses_through x.facts is [])) h.mine
+      ∙ indexes_wanted x.facts owners store x.me h.accepted) (h.asked refl),
   tt,
 )
 hand_first x owners store tables false true owned h =
     h.spots refl
     ∙ ap (λ is. spots_told x.facts Indexes [] (uses_without x.facts is)) h.mine
-    ∙ ap (λ us. spots_told x.facts Indexes (map (place_met x.facts owners) us) (uses_without x.facts (inspected_by x.facts x.me))) (sym (none_asked x.facts Indexes store (inspected_by x.facts x.me) h.asks))
+    ∙ ap (λ us. spots_told x.facts Indexes (map (place_met x.facts owners) us) (uses_without x.facts (inspected_by x.facts x.me)))
+    (sym (none_asked x.facts Indexes store (inspected_by x.facts x.me) h.asks))
     ∙ spots_right x.facts owners store x.me h.accepted owned
 hand_first x owners store tables false false owned h = h.values ∙ sym (no_values x.facts store h.indexes (inspected_by x.facts x.me))
 
-pub phase_begun : (f : LoopFacts) (stage : Stage) (seeks has : Bool) → stage ≡ first_stage seeks has → seeks ≡ asks_places f Indexes → has ≡ has_indexes f
+pub phase_begun : (f : LoopFacts) (stage : Stage) (seeks has : Bool) → stage ≡ first_stage seeks has → seeks ≡ asks_places f Indexes
+    → has ≡ has_indexes f
     → phase_of stage ≡ Some (first_phase f)
 phase_begun f stage seeks has begun asks indexes =
-    ap phase_of begun ∙ by seeks has ∙ ap (λ b. Some (phase_first b has)) asks ∙ ap (λ b. Some (phase_first (asks_places f Indexes) b)) indexes
+    ap phase_of begun ∙ by seeks has ∙ ap (λ b. Some (phase_first b has)) asks ∙ ap (λ b. Some (phase_first (asks_places f Indexes) b))
+    indexes
   where
     by : (a b : Bool) → phase_of (first_stage a b) ≡ Some (phase_first a b)
     by true b = refl

@@ -1,5 +1,6 @@
 -- Iterations go to their homes, and come in order.
-use Rattle.std.proofs.Common.{◌≡◌, ◌≢◌, ℕ, zero, suc, ◌+◌, ◌-◌, ◌<◌, ◌≤◌, ℤ, Bool, true, false, ◌==◌, cond, List, [], ◌∷◌, ◌++◌, length, map, filter, drop, take, Option, Some, None, refl, ap, sym, ◌∙◌, arith, append_assoc, append-nil}
+use Rattle.std.proofs.Common.{◌≡◌, ◌≢◌, ℕ, zero, suc, ◌+◌, ◌-◌, ◌<◌, ◌≤◌, ℤ, Bool, true, false, ◌==◌, cond, List, [], ◌∷◌, ◌++◌, length}
+use Rattle.std.proofs.Common.{map, filter, drop, take, Option, Some, None, refl, ap, sym, ◌∙◌, arith, append_assoc, append-nil}
 use Rattle.std.specs.Prelude.{count_by, slice_get, unwrap_or, ◌&&◌, IsSomeAnd, All}
 use Rattle.std.specs.List.{flat_map, cons_option, AllByRecursion}
 use Rattle.std.proofs.lemmas.Bool.Decides.{nat_tests}
@@ -11,13 +12,15 @@ use Rattle.std.proofs.lemmas.List.Sums.{sum_by-cons}
 use Rattle.fd_words.specs.declared.place.Place.{Place}
 use Rattle.fd_words.specs.declared.place.Role.TheVariants.{Target}
 use Rattle.chaos_dist.specs.Counting.{below}
-use Rattle.chaos_order.specs.Dealt.{map-range-same}
+use Rattle.list_laws.specs.Rows.{map-range-same, deals}
 use Rattle.fd_program.specs.Checks.{HasRole, IsSite, IsStatement}
-use Rattle.fd_program.specs.Homes.{executed_by, first_target, home_by, home_of, inspected_by, looked_at, owner_met, provisional_home, uses_at}
+use Rattle.fd_program.specs.Homes.{executed_by, first_target, home_by, home_of, inspected_by, looked_at, owner_met, provisional_home}
+use Rattle.fd_program.specs.Homes.{uses_at}
 use Rattle.fd_program.specs.ListLaws.{all_filter, all_weaker}
 use Rattle.fd_program.specs.Loops.{iterations_of, offence_of, target_of}
 use Rattle.fd_program.specs.Stores.{number_at}
-use Rattle.fd_program.specs.Uses.{gives_index, index_value, index_values, is_index, is_met, no_use, read_of, subscript_of, use_at, use_of, uses_from}
+use Rattle.fd_program.specs.Uses.{gives_index, index_value, index_values, is_met, no_use, read_of, subscript_of, use_at, use_of, uses_from}
+use Rattle.fd_words.specs.Roles.{is_index}
 use Rattle.fd_program.specs.VoteLaws.{executed_in_order, flat_map_parts}
 use Rattle.fd_program.specs.declared.array.ArrayFacts.{ArrayFacts}
 use Rattle.fd_program.specs.declared.body.CheckedBody.{CheckedBody}
@@ -26,15 +29,14 @@ use Rattle.fd_program.specs.declared.loop_facts.HomeRule.TheVariants.{Owner, Mos
 use Rattle.fd_program.specs.declared.loop_facts.LoopFacts.{LoopFacts}
 use Rattle.fd_program.specs.declared.loop_use.Use.{Use}
 use Rattle.fd_program.specs.declared.reference.Reference.{Reference}
-use Rattle.chaos_phases.specs.LoopLetters.{is_looked_at, iteration_row, numbers_in_loop, owed_in, sent_in}
-use Rattle.chaos_phases.specs.declared.loop_phase.Asking.TheVariants.{Homes}
-use Rattle.chaos_phases.specs.declared.loop_phase.LoopPhase.TheVariants.{Iterations}
-use Rattle.chaos_reach.specs.Accepted.{AreOwners, IsAccepted}
-use Rattle.chaos_reach.specs.Reached.{place_met}
-use Rattle.chaos_reach.specs.ReachedLaws.{values_at, uses_are_reached, values_are_behind}
-use Rattle.chaos_inspect.specs.Dealing.{deals}
+use Rattle.plan_loop.specs.LoopLetters.{is_looked_at, iteration_row, numbers_in_loop, owed_in, sent_in}
+use Rattle.plan_loop.specs.declared.loop_phase.Asking.TheVariants.{Homes}
+use Rattle.plan_loop.specs.declared.loop_phase.LoopPhase.TheVariants.{Iterations}
+use Rattle.inspect_uses.specs.Accepted.{AreOwners, IsAccepted}
+use Rattle.inspect_uses.specs.Reached.{place_met}
+use Rattle.inspect_uses.specs.ReachedLaws.{values_at, uses_are_reached, values_are_behind}
 use Rattle.chaos_inspect.specs.Walking.{Homed, home_told, homed_through, is_asked, is_reached, uses_through}
-use Rattle.chaos_asking.specs.Laws.{uses_wanted}
+use Rattle.inspect_places.specs.Laws.{uses_wanted}
 use Rattle.chaos_inspect.specs.Met.{places_asked, spot_met, values_of}
 use Rattle.chaos_inspect.specs.declared.spot.Spot.{Spot}
 use Rattle.chaos_inspect.proofs.Fetching.{map_map_same}
@@ -51,13 +53,15 @@ other_number k p h = grind (arith, nat_tests)
 -- ---- rows
 
 -- as many values as index references give
-pub count_given : (f : LoopFacts) (store : List (List ℤ)) (us : List Use) → length (index_values f.arrays store us) ≡ count_by (gives_index f.arrays) us
+pub count_given : (f : LoopFacts) (store : List (List ℤ)) (us : List Use) → length (index_values f.arrays store us)
+    ≡ count_by (gives_index f.arrays) us
 count_given f store [] = refl
 count_given f store (u ∷ us) =
     by (gives_index f.arrays u) (count_given f store us) ∙ sym (sum_by-cons (λ v. cond (gives_index f.arrays v) 1 0) u us)
   where
     by : (b : Bool) → length (index_values f.arrays store us) ≡ count_by (gives_index f.arrays) us
-        → length (cons_option (cond b (Some (read_of store u)) None) (index_values f.arrays store us)) ≡ cond b 1 0 + count_by (gives_index f.arrays) us
+        → length (cons_option (cond b (Some (read_of store u)) None) (index_values f.arrays store us)) ≡ cond b 1 0
+        + count_by (gives_index f.arrays) us
     by true e = omega (arith, e)
     by false e = omega (arith, e)
 
@@ -70,7 +74,8 @@ given_row f store (u ∷ us) met = by (is_index u.role) (given_row f store us me
     by : (b : Bool) → index_values f.arrays store us ≡ map (read_of store) (filter (λ v. is_index v.role) us)
         → cons_option (cond (b && is_met f.arrays u) (Some (read_of store u)) None) (index_values f.arrays store us)
         ≡ map (read_of store) (cond b (u ∷ filter (λ v. is_index v.role) us) (filter (λ v. is_index v.role) us))
-    by true e = ap (λ m. cons_option (cond m (Some (read_of store u)) None) (index_values f.arrays store us)) met.0 ∙ ap (λ l. read_of store u ∷ l) e
+    by true e = ap (λ m. cons_option (cond m (Some (read_of store u)) None) (index_values f.arrays store us)) met.0
+        ∙ ap (λ l. read_of store u ∷ l) e
     by false e = e
 
 -- ---- homes
@@ -81,25 +86,29 @@ none_numbered : (f : LoopFacts) (store : List (List ℤ)) (i : ℤ) (n place : �
 none_numbered f store i n place before [] less = refl
 none_numbered f store i n place before (r ∷ rs) less =
     let u = use_of r i (place + 1) (subscript_of r.subscript i (number_at f.turn.adds place) before) in
-    let later = filter (λ v. (v.number == n) && is_met f.arrays v) (uses_from f.arrays f.turn.adds store i (place + 1) (index_value f.arrays store u) rs) in
+    let later = filter (λ v. (v.number == n) && is_met f.arrays v) (uses_from f.arrays f.turn.adds store i (place + 1)
+    (index_value f.arrays store u) rs) in
     ap (λ b. cond (b && is_met f.arrays u) (u ∷ later) later) (other_number (place + 1) n (omega (arith, less)))
     ∙ none_numbered f store i n (place + 1) (index_value f.arrays store u) rs (omega (arith, less))
 
-one_numbered : (f : LoopFacts) (store : List (List ℤ)) (i : ℤ) (n place : ℕ) (before : Option ℤ) (references : List Reference) (k : ℕ) → k < length references
+one_numbered : (f : LoopFacts) (store : List (List ℤ)) (i : ℤ) (n place : ℕ) (before : Option ℤ) (references : List Reference) (k : ℕ)
+    → k < length references
     → n ≡ place + k + 1 → AllMet f.arrays (uses_from f.arrays f.turn.adds store i place before references)
     → filter (λ u. (u.number == n) && is_met f.arrays u) (uses_from f.arrays f.turn.adds store i place before references)
     ≡ unwrap_or (slice_get (uses_from f.arrays f.turn.adds store i place before references) k) no_use ∷ []
 one_numbered f store i n place before [] k less at met = absurd (omega (arith, less))
 one_numbered f store i n place before (r ∷ rs) zero less at met =
     let u = use_of r i (place + 1) (subscript_of r.subscript i (number_at f.turn.adds place) before) in
-    let later = filter (λ v. (v.number == n) && is_met f.arrays v) (uses_from f.arrays f.turn.adds store i (place + 1) (index_value f.arrays store u) rs) in
+    let later = filter (λ v. (v.number == n) && is_met f.arrays v) (uses_from f.arrays f.turn.adds store i (place + 1)
+    (index_value f.arrays store u) rs) in
     let here : place + 1 ≡ n = omega (arith, at) in
     ap (λ b. cond (b && is_met f.arrays u) (u ∷ later) later) (ap (λ m. m == n) here ∙ same_number n)
     ∙ ap (λ b. cond b (u ∷ later) later) met.0
     ∙ ap (λ l. u ∷ l) (none_numbered f store i n (place + 1) (index_value f.arrays store u) rs (omega (arith, here)))
 one_numbered f store i n place before (r ∷ rs) (suc k) less at met =
     let u = use_of r i (place + 1) (subscript_of r.subscript i (number_at f.turn.adds place) before) in
-    let later = filter (λ v. (v.number == n) && is_met f.arrays v) (uses_from f.arrays f.turn.adds store i (place + 1) (index_value f.arrays store u) rs) in
+    let later = filter (λ v. (v.number == n) && is_met f.arrays v) (uses_from f.arrays f.turn.adds store i (place + 1)
+    (index_value f.arrays store u) rs) in
     let there : n ≡ place + 1 + k + 1 = omega (arith, at) in
     ap (λ b. cond (b && is_met f.arrays u) (u ∷ later) later) (other_number (place + 1) n (omega (arith, at)))
     ∙ one_numbered f store i n (place + 1) (index_value f.arrays store u) rs k (omega (arith, less)) there met.1
@@ -112,7 +121,8 @@ record IsNumber (references : List Reference) (number : ℕ) : Type 0 where
 target_there : (f : LoopFacts) → IsSite f.arrays f.site → IsNumber f.site.references (first_target f.site.body)
 target_there f site = by f.site.body site.some site.body
   where
-    there : (o : Option Reference) (k : ℕ) → slice_get f.site.references k ≡ o → IsSomeAnd o (λ r. r.role ≡ Target) → k < length f.site.references
+    there : (o : Option Reference) (k : ℕ) → slice_get f.site.references k ≡ o → IsSomeAnd o (λ r. r.role ≡ Target)
+        → k < length f.site.references
     there None k e h = absurd h
     there (Some r) k e h = slice_get_within f.site.references k r e
 
@@ -130,8 +140,10 @@ all_kept arrays (u ∷ us) met =
     ∙ ap (λ l. u ∷ l) (all_kept arrays us met.1)
 
 -- those that the asking is for are those that the rule looks at
-looked_right : (f : LoopFacts) (store : List (List ℤ)) (i : ℤ) (rule : HomeRule) → IsSite f.arrays f.site → AllMet f.arrays (uses_at f store i)
-    → filter (λ u. is_looked_at rule f.site.body u.number && is_met f.arrays u) (uses_at f store i) ≡ looked_at rule f.site.body (uses_at f store i)
+looked_right : (f : LoopFacts) (store : List (List ℤ)) (i : ℤ) (rule : HomeRule) → IsSite f.arrays f.site
+    → AllMet f.arrays (uses_at f store i)
+    → filter (λ u. is_looked_at rule f.site.body u.number && is_met f.arrays u) (uses_at f store i) ≡ looked_at rule f.site.body
+    (uses_at f store i)
 looked_right f store i Owner site met =
     let target = target_there f site in
     let number = first_target f.site.body in
@@ -141,8 +153,10 @@ looked_right f store i Owner site met =
     ∙ ap (λ n. use_at (uses_at f store i) n ∷ []) (sym next)
 looked_right f store i Most site met = all_kept f.arrays (uses_at f store i) met
 
-home_right : (f : LoopFacts) (owners : List (List ℕ)) (store : List (List ℤ)) (i : ℤ) (more : List Place) → IsAccepted f → AreOwners f owners → AllMet f.arrays (uses_at f store i)
-    → home_told f (map (place_met f owners) (filter (is_asked f Homes) (uses_at f store i)) ++ more) (uses_at f store i) ≡ home_of f owners store i
+home_right : (f : LoopFacts) (owners : List (List ℕ)) (store : List (List ℤ)) (i : ℤ) (more : List Place) → IsAccepted f
+    → AreOwners f owners → AllMet f.arrays (uses_at f store i)
+    → home_told f (map (place_met f owners) (filter (is_asked f Homes) (uses_at f store i)) ++ more) (uses_at f store i)
+    ≡ home_of f owners store i
 home_right f owners store i more accepted owned met =
     let us = uses_at f store i in
     let owner : Spot → ℕ = λ s. s.owner in
@@ -166,9 +180,11 @@ places_split f owners us vs more =
     ∙ ap (λ l. l ++ more) (map-append (place_met f owners) (filter (is_asked f Homes) us) (filter (is_asked f Homes) vs))
     ∙ append_assoc (asked_places f owners us) (asked_places f owners vs) more
 
-homed_along : (f : LoopFacts) (owners : List (List ℕ)) (store : List (List ℤ)) → IsAccepted f → AreOwners f owners → (is more : List ℤ) (after : List Place)
+homed_along : (f : LoopFacts) (owners : List (List ℕ)) (store : List (List ℤ)) → IsAccepted f → AreOwners f owners
+    → (is more : List ℤ) (after : List Place)
     → AllByRecursion (λ i. AllMet f.arrays (uses_at f store i)) is
-    → homed_through f is (flat_map (values_at f store) is ++ more) (asked_places f owners (flat_map (uses_at f store) is) ++ after) ≡ map (homed_of f owners store) is
+    → homed_through f is (flat_map (values_at f store) is ++ more) (asked_places f owners (flat_map (uses_at f store) is) ++ after)
+    ≡ map (homed_of f owners store) is
 homed_along f owners store accepted owned [] more after met = refl
 homed_along f owners store accepted owned (i ∷ is) more after met =
     let later = flat_map (values_at f store) is ++ more in
@@ -183,38 +199,52 @@ homed_along f owners store accepted owned (i ∷ is) more after met =
     let one : ℕ → List ℤ → Homed = λ home row. record { home = home; row = row } in
     let front : take count (here ++ later) ≡ map (read_of store) (filter (λ u. is_index u.role) us) =
     take_at here later count (count_given f store us) ∙ given_row f store us met.0 in
-    ap (λ vs. homed_through f (i ∷ is) vs (asked_places f owners (flat_map (uses_at f store) (i ∷ is)) ++ after)) (append_assoc here (flat_map (values_at f store) is) more)
+    ap (λ vs. homed_through f (i ∷ is) vs (asked_places f owners (flat_map (uses_at f store) (i ∷ is)) ++ after))
+    (append_assoc here (flat_map (values_at f store) is) more)
     ∙ ap (homed_through f (i ∷ is) (here ++ later)) (places_split f owners us (flat_map (uses_at f store) is) after)
     ∙ ap made (uses_are_reached f store i later)
-    ∙ ap (λ vs. one (home_told f places us) (i ∷ take count (here ++ later)) ∷ homed_through f is vs (drop (count_by (is_asked f Homes) us) places)) (values_are_behind f store i later)
-    ∙ ap (λ ps. one (home_told f places us) (i ∷ take count (here ++ later)) ∷ homed_through f is later ps) (places_behind f owners Homes us behind)
-    ∙ ap (λ l. one (home_told f places us) (i ∷ take count (here ++ later)) ∷ l) (homed_along f owners store accepted owned is more after met.1)
-    ∙ ap (λ home. one home (i ∷ take count (here ++ later)) ∷ map (homed_of f owners store) is) (home_right f owners store i behind accepted owned met.0)
+    ∙ ap (λ vs. one (home_told f places us) (i ∷ take count (here ++ later)) ∷ homed_through f is vs
+    (drop (count_by (is_asked f Homes) us) places)) (values_are_behind f store i later)
+    ∙ ap (λ ps. one (home_told f places us) (i ∷ take count (here ++ later)) ∷ homed_through f is later ps)
+    (places_behind f owners Homes us behind)
+    ∙ ap (λ l. one (home_told f places us) (i ∷ take count (here ++ later)) ∷ l) (homed_along f owners store accepted owned is more after
+    met.1)
+    ∙ ap (λ home. one home (i ∷ take count (here ++ later)) ∷ map (homed_of f owners store) is)
+    (home_right f owners store i behind accepted owned met.0)
     ∙ ap (λ row. one (home_of f owners store i) (i ∷ row) ∷ map (homed_of f owners store) is) front
 
 -- each reference of the node's own iterations
 met_all : (f : LoopFacts) (store : List (List ℤ)) (p : ℕ) → IsAccepted f → offence_of f.arrays f.site f.turn store ≡ None
     → AllByRecursion (λ i. AllMet f.arrays (uses_at f store i)) (inspected_by f p)
 met_all f store p accepted sound =
-    all_weaker (λ i. ((provisional_home f i == p) ≡ true) × AllMet f.arrays (uses_at f store i)) (λ i. AllMet f.arrays (uses_at f store i)) (λ i h. h.1)
+    all_weaker (λ i. ((provisional_home f i == p) ≡ true) × AllMet f.arrays (uses_at f store i))
+    (λ i. AllMet f.arrays (uses_at f store i)) (λ i h. h.1)
     (inspected_by f p)
-    (all_filter (λ i. AllMet f.arrays (uses_at f store i)) (λ i. provisional_home f i == p) (iterations_of f.turn) (all_met f store accepted.site sound))
+    (all_filter (λ i. AllMet f.arrays (uses_at f store i)) (λ i. provisional_home f i == p) (iterations_of f.turn)
+    (all_met f store accepted.site sound))
 
 rows_to : (f : LoopFacts) (owners : List (List ℕ)) (store : List (List ℤ)) (q : ℕ) (is : List ℤ)
-    → flat_map (λ (h : Homed). h.row) (filter (λ (h : Homed). h.home == q) (map (homed_of f owners store) is)) ≡ flat_map (iteration_row f store) (filter (λ i. home_of f owners store i == q) is)
+    → flat_map (λ (h : Homed). h.row) (filter (λ (h : Homed). h.home == q) (map (homed_of f owners store) is))
+    ≡ flat_map (iteration_row f store) (filter (λ i. home_of f owners store i == q) is)
 rows_to f owners store q [] = refl
 rows_to f owners store q (i ∷ is) = by (home_of f owners store i == q) (rows_to f owners store q is)
   where
     by : (b : Bool)
-        → flat_map (λ (h : Homed). h.row) (filter (λ (h : Homed). h.home == q) (map (homed_of f owners store) is)) ≡ flat_map (iteration_row f store) (filter (λ j. home_of f owners store j == q) is)
-        → flat_map (λ (h : Homed). h.row) (cond b (homed_of f owners store i ∷ filter (λ (h : Homed). h.home == q) (map (homed_of f owners store) is)) (filter (λ (h : Homed). h.home == q) (map (homed_of f owners store) is)))
-        ≡ flat_map (iteration_row f store) (cond b (i ∷ filter (λ j. home_of f owners store j == q) is) (filter (λ j. home_of f owners store j == q) is))
+        → flat_map (λ (h : Homed). h.row) (filter (λ (h : Homed). h.home == q) (map (homed_of f owners store) is))
+        ≡ flat_map (iteration_row f store) (filter (λ j. home_of f owners store j == q) is)
+        → flat_map (λ (h : Homed). h.row)
+        (cond b (homed_of f owners store i ∷ filter (λ (h : Homed). h.home == q) (map (homed_of f owners store) is))
+        (filter (λ (h : Homed). h.home == q) (map (homed_of f owners store) is)))
+        ≡ flat_map (iteration_row f store) (cond b (i ∷ filter (λ j. home_of f owners store j == q) is)
+        (filter (λ j. home_of f owners store j == q) is))
     by true e = ap (λ l. iteration_row f store i ++ l) e
     by false e = e
 
-pub rows_right : (f : LoopFacts) (owners : List (List ℕ)) (store : List (List ℤ)) (p : ℕ) (values : List ℤ) (places : List Place) → IsAccepted f → AreOwners f owners
+pub rows_right : (f : LoopFacts) (owners : List (List ℕ)) (store : List (List ℤ)) (p : ℕ) (values : List ℤ) (places : List Place)
+    → IsAccepted f → AreOwners f owners
     → values ≡ values_of f store p → places ≡ places_asked f owners store Homes p → offence_of f.arrays f.site f.turn store ≡ None
-    → deals (λ (h : Homed). h.home) (λ (h : Homed). h.row) f.nodes (homed_through f (inspected_by f p) values places) ≡ sent_in f owners store Iterations p
+    → deals (λ (h : Homed). h.home) (λ (h : Homed). h.row) f.nodes (homed_through f (inspected_by f p) values places)
+    ≡ sent_in f owners store Iterations p
 rows_right f owners store p values places accepted owned fetched told sound =
     ap (deals (λ (h : Homed). h.home) (λ (h : Homed). h.row) f.nodes)
     (ap (λ vs. homed_through f (inspected_by f p) vs places) (fetched ∙ sym (append-nil (values_of f store p)))

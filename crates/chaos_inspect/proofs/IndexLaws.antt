@@ -1,5 +1,6 @@
 -- Index references look at no value: what is evaluated of them without values are the loop's.
-use Rattle.std.proofs.Common.{◌≡◌, ℕ, zero, suc, ◌+◌, ℤ, false, cond, List, [], ◌∷◌, ◌++◌, filter, drop, Option, None, refl, ap, sym, ◌∙◌, arith}
+use Rattle.std.proofs.Common.{◌≡◌, ℕ, zero, suc, ◌+◌, ℤ, false, cond, List, [], ◌∷◌, ◌++◌, filter, drop, Option, None, refl, ap, sym, ◌∙◌}
+use Rattle.std.proofs.Common.{arith}
 use Rattle.std.specs.Prelude.{All, ◌&&◌, count_by}
 use Rattle.std.specs.List.{flat_map, AllByRecursion}
 use Rattle.std.proofs.lemmas.List.Elements.{filter-append}
@@ -8,14 +9,15 @@ use Rattle.fd_words.specs.declared.place.Role.TheVariants.{Index, Read, Target}
 use Rattle.fd_program.specs.Checks.{IsPlain, IsReference, IsSite}
 use Rattle.fd_program.specs.Homes.{uses_at}
 use Rattle.fd_program.specs.Stores.{number_at}
-use Rattle.fd_program.specs.Uses.{gives_index, index_value, is_index, is_met, subscript_of, use_of, uses_from, uses_told, value_told, values_behind}
+use Rattle.fd_program.specs.Uses.{gives_index, index_value, is_met, subscript_of, use_of, uses_from, uses_told, value_told, values_behind}
+use Rattle.fd_words.specs.Roles.{is_index}
 use Rattle.fd_program.specs.declared.array.ArrayFacts.{ArrayFacts}
 use Rattle.fd_program.specs.declared.loop_facts.LoopFacts.{LoopFacts}
 use Rattle.fd_program.specs.declared.loop_use.Use.{Use}
 use Rattle.fd_program.specs.declared.reference.CheckedSubscript.{CheckedSubscript}
 use Rattle.fd_program.specs.declared.reference.CheckedSubscript.TheVariants.{Plain, Through, Scalar}
 use Rattle.fd_program.specs.declared.reference.Reference.{Reference}
-use Rattle.chaos_reach.specs.Reached.{uses_with}
+use Rattle.inspect_uses.specs.Reached.{uses_with}
 use Rattle.chaos_inspect.specs.Walking.{uses_through, uses_without}
 
 -- all of a list, by recursion
@@ -37,23 +39,31 @@ module _ (arrays : List ArrayFacts) (adds : List ℤ) (store : List (List ℤ)) 
   used r place before = use_of r i (place + 1) (subscript_of r.subscript i (number_at adds place) before)
 
   one_same : (r : Reference) (place : ℕ) (a b : Option ℤ) → (r.role ≡ Index → IsPlain r.subscript) → (us vs : List Use) → us ≡ vs
-      → cond (gives_index arrays (used r place a)) (used r place a ∷ us) us ≡ cond (gives_index arrays (used r place b)) (used r place b ∷ vs) vs
+      → cond (gives_index arrays (used r place a)) (used r place a ∷ us) us ≡ cond (gives_index arrays (used r place b))
+      (used r place b ∷ vs) vs
   one_same r place a b plain us vs e = by r.role refl
     where
       by : (role : Role) → r.role ≡ role
-          → cond (gives_index arrays (used r place a)) (used r place a ∷ us) us ≡ cond (gives_index arrays (used r place b)) (used r place b ∷ vs) vs
+          → cond (gives_index arrays (used r place a)) (used r place a ∷ us) us ≡ cond (gives_index arrays (used r place b))
+          (used r place b ∷ vs) vs
       by Index is =
-          let same : used r place a ≡ used r place b = ap (λ s. use_of r i (place + 1) s) (plain_same r.subscript (number_at adds place) a b (plain is)) in
-          ap (λ u. cond (gives_index arrays u) (u ∷ us) us) same ∙ ap (λ l. cond (gives_index arrays (used r place b)) (used r place b ∷ l) l) e
+          let same : used r place a ≡ used r place b = ap (λ s. use_of r i (place + 1) s)
+          (plain_same r.subscript (number_at adds place) a b (plain is)) in
+          ap (λ u. cond (gives_index arrays u) (u ∷ us) us) same
+          ∙ ap (λ l. cond (gives_index arrays (used r place b)) (used r place b ∷ l) l) e
       by Read is =
-          let none : (c : Option ℤ) → gives_index arrays (used r place c) ≡ false = λ c. ap (λ role. is_index role && is_met arrays (used r place c)) is in
+          let none : (c : Option ℤ) → gives_index arrays (used r place c) ≡ false =
+          λ c. ap (λ role. is_index role && is_met arrays (used r place c)) is in
           ap (λ t. cond t (used r place a ∷ us) us) (none a) ∙ e ∙ sym (ap (λ t. cond t (used r place b ∷ vs) vs) (none b))
       by Target is =
-          let none : (c : Option ℤ) → gives_index arrays (used r place c) ≡ false = λ c. ap (λ role. is_index role && is_met arrays (used r place c)) is in
+          let none : (c : Option ℤ) → gives_index arrays (used r place c) ≡ false =
+          λ c. ap (λ role. is_index role && is_met arrays (used r place c)) is in
           ap (λ t. cond t (used r place a ∷ us) us) (none a) ∙ e ∙ sym (ap (λ t. cond t (used r place b ∷ vs) vs) (none b))
 
-  indexes_same : (place : ℕ) (a b : Option ℤ) (references : List Reference) (values : List ℤ) → AllByRecursion (IsReference arrays) references
-      → filter (gives_index arrays) (uses_told arrays adds i place a references values) ≡ filter (gives_index arrays) (uses_from arrays adds store i place b references)
+  indexes_same : (place : ℕ) (a b : Option ℤ) (references : List Reference) (values : List ℤ)
+      → AllByRecursion (IsReference arrays) references
+      → filter (gives_index arrays) (uses_told arrays adds i place a references values) ≡ filter (gives_index arrays)
+      (uses_from arrays adds store i place b references)
   indexes_same place a b [] values h = refl
   indexes_same place a b (r ∷ rs) values h =
       let u = used r place a in
@@ -69,7 +79,8 @@ pub indexes_right : (f : LoopFacts) (store : List (List ℤ)) (is : List ℤ) �
 indexes_right f store [] site = refl
 indexes_right f store (i ∷ is) site =
     filter-append (gives_index f.arrays) (uses_with f i []) (uses_without f is)
-    ∙ ap (λ l. l ++ filter (gives_index f.arrays) (uses_without f is)) (indexes_same f.arrays f.turn.adds store i 0 None None f.site.references [] (all_by (IsReference f.arrays) f.site.references site.references))
+    ∙ ap (λ l. l ++ filter (gives_index f.arrays) (uses_without f is)) (indexes_same f.arrays f.turn.adds store i 0 None None
+    f.site.references [] (all_by (IsReference f.arrays) f.site.references site.references))
     ∙ ap (λ l. filter (gives_index f.arrays) (uses_at f store i) ++ l) (indexes_right f store is site)
     ∙ sym (filter-append (gives_index f.arrays) (uses_at f store i) (flat_map (uses_at f store) is))
 
@@ -78,6 +89,7 @@ pub through_none : (f : LoopFacts) (is : List ℤ) → uses_through f is [] ≡ 
 through_none f [] = refl
 through_none f (i ∷ is) = by (count_by (gives_index f.arrays) (uses_with f i [])) (through_none f is)
   where
-    by : (n : ℕ) → uses_through f is [] ≡ uses_without f is → uses_with f i [] ++ uses_through f is (drop n []) ≡ uses_with f i [] ++ uses_without f is
+    by : (n : ℕ) → uses_through f is [] ≡ uses_without f is → uses_with f i [] ++ uses_through f is (drop n []) ≡ uses_with f i []
+        ++ uses_without f is
     by zero e = ap (λ us. uses_with f i [] ++ us) e
     by (suc n) e = ap (λ us. uses_with f i [] ++ us) e

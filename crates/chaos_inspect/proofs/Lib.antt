@@ -4,7 +4,6 @@ pub mod IndexLaws
 pub mod Rounds
 pub mod Turns
 pub mod Sound
-pub mod Ranges
 pub mod Steps
 pub mod Fetching
 pub mod Standing

@@ -3,14 +3,15 @@ use Rattle.std.proofs.Common.{◌≡◌, ℕ, ◌+◌, ℤ, Bool, true, false, c
 use Rattle.std.specs.Prelude.{◌&&◌, ◌||◌}
 use Rattle.std.specs.List.{flat_map, list_any, enumerate_from, AllByRecursion}
 use Rattle.fd_program.specs.Homes.{uses_at}
-use Rattle.fd_program.specs.ListLaws.{all_filter, all_flat_map, all_weaker}
+use Rattle.fd_program.specs.ListLaws.{all_filter, all_flat_map, all_weaker, all_trivial}
 use Rattle.fd_program.specs.Stores.{number_at}
 use Rattle.fd_program.specs.Uses.{index_value, is_met, subscript_of, use_of, uses_from}
 use Rattle.fd_program.specs.declared.loop_facts.LoopFacts.{LoopFacts}
 use Rattle.fd_program.specs.declared.loop_use.Use.{Use}
 use Rattle.fd_program.specs.declared.reference.Reference.{Reference}
-use Rattle.chaos_phases.specs.LoopLetters.{asks_places, is_for, is_map, layout_for}
-use Rattle.chaos_phases.specs.declared.loop_phase.Asking.{Asking}
+use Rattle.plan_loop.specs.LoopLetters.{asks_places, is_for}
+use Rattle.fd_program.specs.Met.{is_map, layout_for}
+use Rattle.plan_loop.specs.declared.loop_phase.Asking.{Asking}
 use Rattle.chaos_inspect.specs.Walking.{is_asked, is_reached}
 
 -- ---- along the references
@@ -30,7 +31,8 @@ neither false b e = (refl, e)
 abbrev HasFormula : LoopFacts → Asking → Use → Type 0
 HasFormula f asking u = (is_for f asking u.number u.role && is_map (layout_for f u.array).form) ≡ false
 
-formula_from : (f : LoopFacts) (asking : Asking) (store : List (List ℤ)) (i : ℤ) (place : ℕ) (before : Option ℤ) (references : List Reference)
+formula_from : (f : LoopFacts) (asking : Asking) (store : List (List ℤ)) (i : ℤ) (place : ℕ) (before : Option ℤ)
+    (references : List Reference)
     → asks_any f asking (place + 1) references ≡ false
     → AllByRecursion (HasFormula f asking) (uses_from f.arrays f.turn.adds store i place before references)
 formula_from f asking store i place before [] none = tt
@@ -46,7 +48,8 @@ every P h (x ∷ xs) = (h x, every P h xs)
 none_kept : (f : LoopFacts) (asking : Asking) (us : List Use) → AllByRecursion (HasFormula f asking) us → filter (is_asked f asking) us ≡ []
 none_kept f asking [] h = refl
 none_kept f asking (u ∷ us) h =
-    ap (λ b. cond b (u ∷ filter (is_asked f asking) us) (filter (is_asked f asking) us)) (by (is_for f asking u.number u.role) (is_met f.arrays u) _ h.0)
+    ap (λ b. cond b (u ∷ filter (is_asked f asking) us) (filter (is_asked f asking) us))
+    (by (is_for f asking u.number u.role) (is_met f.arrays u) _ h.0)
     ∙ none_kept f asking us h.1
   where
     by : (a b c : Bool) → (a && c) ≡ false → (a && b && c) ≡ false
@@ -59,7 +62,8 @@ pub none_asked : (f : LoopFacts) (asking : Asking) (store : List (List ℤ)) (is
 none_asked f asking store is none =
     none_kept f asking (flat_map (uses_at f store) is)
     (all_flat_map (HasFormula f asking) (uses_at f store) is
-    (every (λ i. AllByRecursion (HasFormula f asking) (uses_at f store i)) (λ i. formula_from f asking store i 0 None f.site.references none) is))
+    (every (λ i. AllByRecursion (HasFormula f asking) (uses_at f store i)) (λ i. formula_from f asking store i 0 None f.site.references
+    none) is))
 
 -- ---- those that are asked for are met
 
@@ -67,14 +71,13 @@ both : (a b : Bool) → (a && b) ≡ true → (a ≡ true) × (b ≡ true)
 both true b e = (refl, e)
 both false b e = cc
 
-trivial : {A : Type 0} (xs : List A) → AllByRecursion (λ x. Unit {0}) xs
-trivial [] = tt
-trivial (x ∷ xs) = (tt, trivial xs)
-
-pub asked_met : (f : LoopFacts) (asking : Asking) (us : List Use) → AllByRecursion (λ u. is_met f.arrays u ≡ true) (filter (is_asked f asking) us)
+pub asked_met : (f : LoopFacts) (asking : Asking) (us : List Use) → AllByRecursion (λ u. is_met f.arrays u ≡ true)
+    (filter (is_asked f asking) us)
 asked_met f asking us =
-    all_weaker (λ u. (is_asked f asking u ≡ true) × Unit {0}) (λ u. is_met f.arrays u ≡ true) (λ u h. met u h.0) (filter (is_asked f asking) us)
-    (all_filter (λ u. Unit {0}) (is_asked f asking) us (trivial us))
+    all_weaker (λ u. (is_asked f asking u ≡ true) × Unit {0}) (λ u. is_met f.arrays u ≡ true) (λ u h. met u h.0)
+    (filter (is_asked f asking) us)
+    (all_filter (λ u. Unit {0}) (is_asked f asking) us (all_trivial us))
   where
     met : (u : Use) → is_asked f asking u ≡ true → is_met f.arrays u ≡ true
-    met u h = (both (is_for f asking u.number u.role) (is_met f.arrays u) (both (is_reached f asking u) (is_map (layout_for f u.array).form) h).0).1
+    met u h = (both (is_for f asking u.number u.role) (is_met f.arrays u)
+        (both (is_reached f asking u) (is_map (layout_for f u.array).form) h).0).1

@@ -11,7 +11,8 @@ use Rattle.fd_program.specs.ListLaws.{all_weaker}
 use Rattle.fd_program.specs.LoopCases.{all_sound}
 use Rattle.fd_program.specs.Loops.{iterations_of, offence_at, offence_of}
 use Rattle.fd_program.specs.Stores.{number_at, is_within}
-use Rattle.fd_program.specs.Uses.{index_value, is_index, is_met, read_of, subscript_of, use_of, uses_from}
+use Rattle.fd_program.specs.Uses.{index_value, is_met, read_of, subscript_of, use_of, uses_from}
+use Rattle.fd_words.specs.Roles.{is_index}
 use Rattle.fd_program.specs.declared.array.ArrayFacts.{ArrayFacts}
 use Rattle.fd_program.specs.declared.loop_facts.LoopFacts.{LoopFacts}
 use Rattle.fd_program.specs.declared.loop_use.Use.{Use}
@@ -25,7 +26,8 @@ AllMet arrays us = AllByRecursion (λ u. is_met arrays u ≡ true) us
 some_none : {P : Type 0} (o : Offence) → Some o ≡ None → P
 some_none o e = cc
 
-inside : (defined within : Bool) (o : Offence) → cond (defined && not within) (Some o) None ≡ None → defined ≡ true → (defined && within) ≡ true
+inside : (defined within : Bool) (o : Offence) → cond (defined && not within) (Some o) None ≡ None → defined ≡ true
+    → (defined && within) ≡ true
 inside true true o e d = refl
 inside true false o e d = some_none o e
 inside false within o e d = cc
@@ -40,14 +42,16 @@ given_some (Some z) add f e = refl
 given_some None add f e = e
 
 module _ (arrays : List ArrayFacts) (adds : List ℤ) (store : List (List ℤ)) (i : ℤ) where
-  defined_by : (before_it : Option Reference) (before : Option ℤ) (s : CheckedSubscript) (add : ℤ) → HasGiven before_it before → IsServed before_it s
+  defined_by : (before_it : Option Reference) (before : Option ℤ) (s : CheckedSubscript) (add : ℤ) → HasGiven before_it before
+      → IsServed before_it s
       → is_some (subscript_of s i add before) ≡ true
   defined_by before_it before (Plain terms) add given served = refl
   defined_by None before (Through array at inner terms) add given served = absurd served
   defined_by (Some r) before (Through array at inner terms) add given served = given_some before add _ (given served.role)
   defined_by before_it before (Scalar scalar) add given served = refl
 
-  met_from : (before_it : Option Reference) (place : ℕ) (before : Option ℤ) (references : List Reference) → HasGiven before_it before → AreServed before_it references
+  met_from : (before_it : Option Reference) (place : ℕ) (before : Option ℤ) (references : List Reference) → HasGiven before_it before
+      → AreServed before_it references
       → AllByRecursion (λ u. offence_at arrays u ≡ None) (uses_from arrays adds store i place before references)
       → AllMet arrays (uses_from arrays adds store i place before references)
   met_from before_it place before [] given served sound = tt
@@ -56,7 +60,8 @@ module _ (arrays : List ArrayFacts) (adds : List ℤ) (store : List (List ℤ)) 
       let defined : u.defined ≡ true = defined_by before_it before r.subscript (number_at adds place) given served.0 in
       let met : is_met arrays u ≡ true = inside u.defined (is_within arrays u.array u.subscript) _ sound.0 defined in
       let gives : HasGiven (Some r) (index_value arrays store u) = λ role.
-      ap (λ t. is_some (cond (is_index t && is_met arrays u) (Some (read_of store u)) None)) role ∙ ap (λ b. is_some (cond b (Some (read_of store u)) None)) met in
+      ap (λ t. is_some (cond (is_index t && is_met arrays u) (Some (read_of store u)) None)) role
+      ∙ ap (λ b. is_some (cond b (Some (read_of store u)) None)) met in
       (met, met_from (Some r) (place + 1) (index_value arrays store u) rs gives served.1 sound.1)
 
 -- at each iteration

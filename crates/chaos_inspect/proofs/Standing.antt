@@ -3,17 +3,19 @@ use Rattle.std.proofs.Common.{◌≡◌, ℕ, ℤ, List, [], map, filter, ap, sy
 use Rattle.std.specs.List.{flat_map}
 use Rattle.fd_program.specs.Homes.{inspected_by, uses_at}
 use Rattle.fd_program.specs.declared.loop_facts.LoopFacts.{LoopFacts}
-use Rattle.chaos_phases.specs.LoopLetters.{indexes_of, is_map, layout_for}
-use Rattle.chaos_phases.specs.declared.loop_phase.Asking.TheVariants.{Indexes}
-use Rattle.chaos_reach.specs.Accepted.{AreOwners, IsAccepted}
+use Rattle.plan_loop.specs.LoopLetters.{indexes_of}
+use Rattle.fd_program.specs.Met.{is_map, layout_for}
+use Rattle.plan_loop.specs.declared.loop_phase.Asking.TheVariants.{Indexes}
+use Rattle.inspect_uses.specs.Accepted.{AreOwners, IsAccepted}
 use Rattle.chaos_inspect.specs.Walking.{is_asked, spots_told, uses_through, uses_without}
-use Rattle.chaos_asking.specs.Laws.{uses_wanted}
+use Rattle.inspect_places.specs.Laws.{uses_wanted}
 use Rattle.chaos_inspect.specs.Met.{places_asked, spot_met}
 use Rattle.chaos_inspect.proofs.IndexLaws.{indexes_right, through_none}
 use Rattle.chaos_inspect.proofs.Turns.{asked_filtered, in_turn, told_filtered}
 
 pub spots_right : (f : LoopFacts) (owners : List (List ℕ)) (store : List (List ℤ)) (p : ℕ) → IsAccepted f → AreOwners f owners
-    → spots_told f Indexes (places_asked f owners store Indexes p) (uses_without f (inspected_by f p)) ≡ map (spot_met f owners) (indexes_of f store p)
+    → spots_told f Indexes (places_asked f owners store Indexes p) (uses_without f (inspected_by f p)) ≡ map (spot_met f owners)
+    (indexes_of f store p)
 spots_right f owners store p accepted owned =
     let told = places_asked f owners store Indexes p in
     let all = flat_map (uses_at f store) (inspected_by f p) in

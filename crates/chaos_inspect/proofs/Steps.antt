@@ -1,5 +1,6 @@
 -- Steps of the loops over iterations, over plain lists.
-use Rattle.std.proofs.Common.{◌≡◌, ℕ, ◌+◌, ◌<◌, ◌≤◌, ℤ, pos, List, [], ◌∷◌, ◌++◌, length, filter, drop, take, get_or, refl, ap, sym, ◌∙◌, Some, None, Option, arith, append_assoc, append-nil}
+use Rattle.std.proofs.Common.{◌≡◌, ℕ, ◌+◌, ◌<◌, ◌≤◌, ℤ, pos, List, [], ◌∷◌, ◌++◌, length, filter, drop, take, get_or, refl, ap, sym, ◌∙◌}
+use Rattle.std.proofs.Common.{Some, None, Option, arith, append_assoc, append-nil}
 use Rattle.std.specs.Prelude.{count_by, filter_map}
 use Rattle.std.proofs.lemmas.List.{at_drop_more}
 use Rattle.std.proofs.lemmas.List.Elements.{filter-append, filter_map-append}
@@ -8,12 +9,13 @@ use Rattle.fd_program.specs.Loops.{first_of, offence_at}
 use Rattle.fd_program.specs.Uses.{gives_index}
 use Rattle.fd_program.specs.declared.loop_facts.LoopFacts.{LoopFacts}
 use Rattle.fd_program.specs.declared.loop_use.Use.{Use}
-use Rattle.chaos_reach.specs.Reached.{uses_with}
-use Rattle.chaos_inspect.specs.Dealing.{appended_at, dealt_onto}
+use Rattle.inspect_uses.specs.Reached.{uses_with}
+use Rattle.list_laws.specs.Rows.{appended_at, dealt_onto}
 use Rattle.fd_words.specs.declared.place.Place.{Place}
-use Rattle.chaos_phases.specs.declared.loop_phase.Asking.{Asking}
-use Rattle.chaos_phases.specs.declared.loop_phase.Asking.TheVariants.{Homes, Indexes}
-use Rattle.chaos_inspect.specs.Walking.{Homed, home_told, homed_through, is_asked, piece_value, piece_values, spots_told, uses_through, uses_without}
+use Rattle.plan_loop.specs.declared.loop_phase.Asking.{Asking}
+use Rattle.plan_loop.specs.declared.loop_phase.Asking.TheVariants.{Homes, Indexes}
+use Rattle.chaos_inspect.specs.Walking.{Homed, home_told, homed_through, is_asked, piece_value, piece_values, spots_told, uses_through}
+use Rattle.chaos_inspect.specs.Walking.{uses_without}
 use Rattle.chaos_inspect.proofs.Turns.{told_append}
 use Rattle.chaos_inspect.specs.declared.spot.Spot.{Spot}
 
@@ -27,7 +29,8 @@ first_of-append [] ys = refl
 first_of-append (x ∷ xs) ys = refl
 
 -- one iteration of a walk
-walked : (f : LoopFacts) (is rest more : List ℤ) (k : ℕ) (i : ℤ) (us : List Use) → k < length is → get_or is k (pos 0) ≡ i → us ≡ uses_with f i rest
+walked : (f : LoopFacts) (is rest more : List ℤ) (k : ℕ) (i : ℤ) (us : List Use) → k < length is → get_or is k (pos 0) ≡ i
+    → us ≡ uses_with f i rest
     → more ≡ drop (count_by (gives_index f.arrays) us) rest → us ++ uses_through f (drop (k + 1) is) more ≡ uses_through f (drop k is) rest
 walked f is rest more k i us less at used behind =
     let whole : List Use → List Use = λ vs. vs ++ uses_through f (drop (k + 1) is) (drop (count_by (gives_index f.arrays) vs) rest) in
@@ -36,46 +39,56 @@ walked f is rest more k i us less at used behind =
     ∙ sym (at_drop_more (λ js. uses_through f js rest) is k (pos 0) less)
 
 -- the rest of the offences
-pub votes_step : (f : LoopFacts) (is rest more : List ℤ) (k : ℕ) (i : ℤ) (us : List Use) (all : Option Offence) → k < length is → get_or is k (pos 0) ≡ i
-    → us ≡ uses_with f i rest → first_of (filter_map (offence_at f.arrays) us) ≡ None → more ≡ drop (count_by (gives_index f.arrays) us) rest
+pub votes_step : (f : LoopFacts) (is rest more : List ℤ) (k : ℕ) (i : ℤ) (us : List Use) (all : Option Offence) → k < length is
+    → get_or is k (pos 0) ≡ i
+    → us ≡ uses_with f i rest → first_of (filter_map (offence_at f.arrays) us) ≡ None
+    → more ≡ drop (count_by (gives_index f.arrays) us) rest
     → first_of (filter_map (offence_at f.arrays) (uses_through f (drop k is) rest)) ≡ all
     → first_of (filter_map (offence_at f.arrays) (uses_through f (drop (k + 1) is) more)) ≡ all
 votes_step f is rest more k i us all less at used none behind before =
     let later = uses_through f (drop (k + 1) is) more in
     let split : first_of (filter_map (offence_at f.arrays) (us ++ later)) ≡ first_of (filter_map (offence_at f.arrays) later) =
-    ap first_of (filter_map-append (offence_at f.arrays) us later) ∙ first_of-append (filter_map (offence_at f.arrays) us) (filter_map (offence_at f.arrays) later)
+    ap first_of (filter_map-append (offence_at f.arrays) us later) ∙ first_of-append (filter_map (offence_at f.arrays) us)
+    (filter_map (offence_at f.arrays) later)
     ∙ ap (λ o. either o (first_of (filter_map (offence_at f.arrays) later))) none in
     sym split
     ∙ ap (λ us. first_of (filter_map (offence_at f.arrays) us)) (walked f is rest more k i us less at used behind)
     ∙ before
 
 -- the first of the offences is here
-pub votes_found : (f : LoopFacts) (is rest : List ℤ) (k : ℕ) (i : ℤ) (us : List Use) (o : Offence) (all : Option Offence) → k < length is → get_or is k (pos 0) ≡ i
+pub votes_found : (f : LoopFacts) (is rest : List ℤ) (k : ℕ) (i : ℤ) (us : List Use) (o : Offence) (all : Option Offence) → k < length is
+    → get_or is k (pos 0) ≡ i
     → us ≡ uses_with f i rest → first_of (filter_map (offence_at f.arrays) us) ≡ Some o
     → first_of (filter_map (offence_at f.arrays) (uses_through f (drop k is) rest)) ≡ all → Some o ≡ all
 votes_found f is rest k i us o all less at used some before =
     let more = drop (count_by (gives_index f.arrays) us) rest in
     let later = uses_through f (drop (k + 1) is) more in
-    sym (ap first_of (filter_map-append (offence_at f.arrays) us later) ∙ first_of-append (filter_map (offence_at f.arrays) us) (filter_map (offence_at f.arrays) later)
+    sym (ap first_of (filter_map-append (offence_at f.arrays) us later) ∙ first_of-append (filter_map (offence_at f.arrays) us)
+    (filter_map (offence_at f.arrays) later)
     ∙ ap (λ o. either o (first_of (filter_map (offence_at f.arrays) later))) some)
     ∙ ap (λ us. first_of (filter_map (offence_at f.arrays) us)) (walked f is rest more k i us less at used refl)
     ∙ before
 
 -- the references of one iteration more whose places are asked for
-pub wanted_step : (f : LoopFacts) (asking : Asking) (is rest more : List ℤ) (k : ℕ) (i : ℤ) (us list further all : List Use) → k < length is → get_or is k (pos 0) ≡ i
+pub wanted_step : (f : LoopFacts) (asking : Asking) (is rest more : List ℤ) (k : ℕ) (i : ℤ) (us list further all : List Use)
+    → k < length is → get_or is k (pos 0) ≡ i
     → us ≡ uses_with f i rest → further ≡ list ++ filter (is_asked f asking) us → more ≡ drop (count_by (gives_index f.arrays) us) rest
-    → list ++ filter (is_asked f asking) (uses_through f (drop k is) rest) ≡ all → further ++ filter (is_asked f asking) (uses_through f (drop (k + 1) is) more) ≡ all
+    → list ++ filter (is_asked f asking) (uses_through f (drop k is) rest) ≡ all
+    → further ++ filter (is_asked f asking) (uses_through f (drop (k + 1) is) more) ≡ all
 wanted_step f asking is rest more k i us list further all less at used kept behind before =
     let later = uses_through f (drop (k + 1) is) more in
     ap (λ l. l ++ filter (is_asked f asking) later) kept
     ∙ append_assoc list (filter (is_asked f asking) us) (filter (is_asked f asking) later)
-    ∙ ap (λ l. list ++ l) (sym (filter-append (is_asked f asking) us later) ∙ ap (filter (is_asked f asking)) (walked f is rest more k i us less at used behind))
+    ∙ ap (λ l. list ++ l) (sym (filter-append (is_asked f asking) us later)
+    ∙ ap (filter (is_asked f asking)) (walked f is rest more k i us less at used behind))
     ∙ before
 
 -- the spots of one iteration more
-pub spots_step : (f : LoopFacts) (is : List ℤ) (rest more : List Place) (k : ℕ) (i : ℤ) (us : List Use) (spots further all : List Spot) → k < length is → get_or is k (pos 0) ≡ i
+pub spots_step : (f : LoopFacts) (is : List ℤ) (rest more : List Place) (k : ℕ) (i : ℤ) (us : List Use) (spots further all : List Spot)
+    → k < length is → get_or is k (pos 0) ≡ i
     → us ≡ uses_with f i [] → further ≡ spots ++ spots_told f Indexes rest us → more ≡ drop (count_by (is_asked f Indexes) us) rest
-    → spots ++ spots_told f Indexes rest (uses_without f (drop k is)) ≡ all → further ++ spots_told f Indexes more (uses_without f (drop (k + 1) is)) ≡ all
+    → spots ++ spots_told f Indexes rest (uses_without f (drop k is)) ≡ all
+    → further ++ spots_told f Indexes more (uses_without f (drop (k + 1) is)) ≡ all
 spots_step f is rest more k i us spots further all less at used noted behind before =
     let later = uses_without f (drop (k + 1) is) in
     ap (λ l. l ++ spots_told f Indexes more later) noted
@@ -87,8 +100,10 @@ spots_step f is rest more k i us spots further all less at used noted behind bef
     ∙ before
 
 -- the row of one iteration more
-pub homed_step : (f : LoopFacts) (is rest more : List ℤ) (told later : List Place) (k : ℕ) (i : ℤ) (us : List Use) (count home : ℕ) (lists further all : List (List ℤ))
-    → k < length is → get_or is k (pos 0) ≡ i → us ≡ uses_with f i rest → count ≡ count_by (gives_index f.arrays) us → home ≡ home_told f told us
+pub homed_step : (f : LoopFacts) (is rest more : List ℤ) (told later : List Place) (k : ℕ) (i : ℤ) (us : List Use) (count home : ℕ)
+    (lists further all : List (List ℤ))
+    → k < length is → get_or is k (pos 0) ≡ i → us ≡ uses_with f i rest → count ≡ count_by (gives_index f.arrays) us
+    → home ≡ home_told f told us
     → further ≡ appended_at lists home (i ∷ take count rest) → more ≡ drop count rest → later ≡ drop (count_by (is_asked f Homes) us) told
     → dealt_onto (λ (h : Homed). h.home) (λ (h : Homed). h.row) lists (homed_through f (drop k is) rest told) ≡ all
     → dealt_onto (λ (h : Homed). h.home) (λ (h : Homed). h.row) further (homed_through f (drop (k + 1) is) more later) ≡ all
@@ -97,9 +112,12 @@ homed_step f is rest more told later k i us count home lists further all less at
     let made : ℤ → List Use → List (List ℤ) = λ j vs.
     onto (appended_at lists (home_told f told vs) (j ∷ take (count_by (gives_index f.arrays) vs) rest))
     (homed_through f (drop (k + 1) is) (drop (count_by (gives_index f.arrays) vs) rest) (drop (count_by (is_asked f Homes) vs) told)) in
-    ap (λ l. onto l (homed_through f (drop (k + 1) is) more later)) (appended ∙ ap (λ n. appended_at lists n (i ∷ take count rest)) homed ∙ ap (λ n. appended_at lists (home_told f told us) (i ∷ take n rest)) counted)
-    ∙ ap (λ vs. onto (appended_at lists (home_told f told us) (i ∷ take (count_by (gives_index f.arrays) us) rest)) (homed_through f (drop (k + 1) is) vs later)) (behind ∙ ap (λ n. drop n rest) counted)
-    ∙ ap (λ ps. onto (appended_at lists (home_told f told us) (i ∷ take (count_by (gives_index f.arrays) us) rest)) (homed_through f (drop (k + 1) is) (drop (count_by (gives_index f.arrays) us) rest) ps)) past
+    ap (λ l. onto l (homed_through f (drop (k + 1) is) more later)) (appended ∙ ap (λ n. appended_at lists n (i ∷ take count rest)) homed
+    ∙ ap (λ n. appended_at lists (home_told f told us) (i ∷ take n rest)) counted)
+    ∙ ap (λ vs. onto (appended_at lists (home_told f told us) (i ∷ take (count_by (gives_index f.arrays) us) rest))
+    (homed_through f (drop (k + 1) is) vs later)) (behind ∙ ap (λ n. drop n rest) counted)
+    ∙ ap (λ ps. onto (appended_at lists (home_told f told us) (i ∷ take (count_by (gives_index f.arrays) us) rest))
+    (homed_through f (drop (k + 1) is) (drop (count_by (gives_index f.arrays) us) rest) ps)) past
     ∙ ap (made i) used
     ∙ ap (λ j. made j (uses_with f j rest)) (sym at)
     ∙ sym (at_drop_more (λ js. onto lists (homed_through f js rest told)) is k (pos 0) less)
@@ -115,7 +133,8 @@ pair_step pieces (array ∷ local ∷ rest) more values further all two behind p
     ap (λ l. l ++ piece_values pieces more) pushed ∙ append_assoc values (piece_value pieces array local ∷ []) (piece_values pieces more)
     ∙ ap (λ l. values ++ (piece_value pieces array local ∷ piece_values pieces l)) behind ∙ before
 
-pub pair_done : (pieces : List (List ℤ)) (asked values all : List ℤ) → length asked < 2 → values ++ piece_values pieces asked ≡ all → values ≡ all
+pub pair_done : (pieces : List (List ℤ)) (asked values all : List ℤ) → length asked < 2 → values ++ piece_values pieces asked ≡ all
+    → values ≡ all
 pair_done pieces [] values all few before = sym (append-nil values) ∙ before
 pair_done pieces (array ∷ []) values all few before = sym (append-nil values) ∙ before
 pair_done pieces (array ∷ local ∷ rest) values all few before = absurd (omega arith)

@@ -1,5 +1,6 @@
 -- The least of the nodes' votes is the offence of the loop.
-use Rattle.std.proofs.Common.{◌≡◌, ℕ, zero, suc, ◌+◌, ◌/◌, ◌<◌, ◌≤◌, ◌⊎◌, ℤ, pos, negsuc, ◌+ℤ◌, ◌-ℤ◌, ◌<ℤ◌, ◌≤ℤ◌, Bool, true, false, ◌==◌, cond, List, [], ◌∷◌, length, map, replicate, Option, Some, None, refl, ap, sym, ◌∙◌, subst, arith, inl, inr}
+use Rattle.std.proofs.Common.{◌≡◌, ℕ, zero, suc, ◌+◌, ◌/◌, ◌<◌, ◌≤◌, ◌⊎◌, ℤ, pos, negsuc, ◌+ℤ◌, ◌-ℤ◌, ◌<ℤ◌, ◌≤ℤ◌, Bool, true, false, ◌==◌}
+use Rattle.std.proofs.Common.{cond, List, [], ◌∷◌, length, map, replicate, Option, Some, None, refl, ap, sym, ◌∙◌, subst, arith, inl, inr}
 use Rattle.std.specs.Prelude.{filter_map, not, ◌&&◌, IfSome}
 use Rattle.std.specs.List.{flat_map, range_with_len, cons_option, AllByRecursion}
 use Rattle.std.proofs.lemmas.Bool.Decides.{nat_tests}
@@ -24,9 +25,9 @@ use Rattle.fd_program.specs.VoteLaws.{first_some, votes_tell}
 use Rattle.fd_program.specs.declared.loop_facts.LoopFacts.{LoopFacts}
 use Rattle.fd_program.specs.declared.loop_use.Use.{Use}
 use Rattle.fd_program.specs.declared.reference.Reference.{Reference}
-use Rattle.chaos_phases.specs.LoopLetters.{owed_in, sent_in}
-use Rattle.chaos_phases.specs.declared.loop_phase.LoopPhase.TheVariants.{Vote}
-use Rattle.chaos_reach.specs.Accepted.{IsAccepted}
+use Rattle.plan_loop.specs.LoopLetters.{owed_in, sent_in}
+use Rattle.plan_loop.specs.declared.loop_phase.LoopPhase.TheVariants.{Vote}
+use Rattle.inspect_uses.specs.Accepted.{IsAccepted}
 use Rattle.chaos_inspect.specs.Walking.{uses_through}
 use Rattle.chaos_inspect.specs.Met.{values_of}
 use Rattle.chaos_inspect.proofs.Fetching.{map_map_same}
@@ -44,7 +45,8 @@ same_to_all l a (suc n) = ap (λ ls. l ∷ ls) (same_to_all l (a + 1) n)
 
 pub votes_sent : (f : LoopFacts) (owners : List (List ℕ)) (store : List (List ℤ)) (p : ℕ) (vote : Option Offence) → vote ≡ vote_of f store p
     → replicate f.nodes (vote_numbers vote) ≡ sent_in f owners store Vote p
-votes_sent f owners store p vote e = ap (λ v. replicate f.nodes (vote_numbers v)) e ∙ same_to_all (vote_numbers (vote_of f store p)) 0 f.nodes
+votes_sent f owners store p vote e = ap (λ v. replicate f.nodes (vote_numbers v)) e
+    ∙ same_to_all (vote_numbers (vote_of f store p)) 0 f.nodes
 
 -- ---- what a vote is
 
@@ -58,24 +60,31 @@ record IsUse (i : ℤ) (most : ℕ) (u : Use) : Type 0 where
   iteration : u.iteration ≡ i
   small : u.number ≤ most
 
-uses_are : (f : LoopFacts) (store : List (List ℤ)) (i : ℤ) (most place : ℕ) (before : Option ℤ) (references : List Reference) → place + length references ≤ most
+uses_are : (f : LoopFacts) (store : List (List ℤ)) (i : ℤ) (most place : ℕ) (before : Option ℤ) (references : List Reference)
+    → place + length references ≤ most
     → AllByRecursion (IsUse i most) (uses_from f.arrays f.turn.adds store i place before references)
 uses_are f store i most place before [] few = tt
 uses_are f store i most place before (r ∷ rs) few =
-    let u = use_of r i (place + 1) (subscript_of r.subscript i (number_at f.turn.adds place) before) in
-    (record { iteration = refl; small = omega (arith, few) }, uses_are f store i most (place + 1) (index_value f.arrays store u) rs (omega (arith, few)))
+    let u = use_of r i (place + 1) (subscript_of r.subscript i (number_at f.turn.adds place) before) in (
+      record { iteration = refl; small = omega (arith, few) },
+      uses_are f store i most (place + 1) (index_value f.arrays store u) rs
+          (omega (arith, few)),
+    )
 
 offence_parts : (b : Bool) (o p : Offence) → cond b (Some o) None ≡ Some p → o ≡ p
 offence_parts true o p e = cc
 offence_parts false o p e = cc
 
-all_offences : (f : LoopFacts) (q : ℕ) (i : ℤ) → provisional_home f i ≡ q → f.turn.low ≤ℤ i → (us : List Use) → AllByRecursion (IsUse i (length f.site.references)) us
+all_offences : (f : LoopFacts) (q : ℕ) (i : ℤ) → provisional_home f i ≡ q → f.turn.low ≤ℤ i → (us : List Use)
+    → AllByRecursion (IsUse i (length f.site.references)) us
     → AllByRecursion (IsVote f q) (filter_map (offence_at f.arrays) us)
 all_offences f q i home low [] h = tt
 all_offences f q i home low (u ∷ us) h = by (u.defined && not (is_within f.arrays u.array u.subscript)) (all_offences f q i home low us h.1)
   where
     by : (b : Bool) → AllByRecursion (IsVote f q) (filter_map (offence_at f.arrays) us)
-        → AllByRecursion (IsVote f q) (cons_option (cond b (Some (record { iteration = u.iteration; reference = u.number; subscript = u.subscript })) None) (filter_map (offence_at f.arrays) us))
+        → AllByRecursion (IsVote f q) (cons_option
+        (cond b (Some (record { iteration = u.iteration; reference = u.number; subscript = u.subscript })) None)
+        (filter_map (offence_at f.arrays) us))
     by true rest = (
       record {
         home = ap (provisional_home f) h.0.iteration ∙ home;
@@ -101,8 +110,10 @@ votes_in : (f : LoopFacts) (store : List (List ℤ)) (q : ℕ) (is : List ℤ) �
 votes_in f store q [] h = tt
 votes_in f store q (i ∷ is) h =
     subst (AllByRecursion (IsVote f q)) (sym (filter_map-append (offence_at f.arrays) (uses_at f store i) (flat_map (uses_at f store) is)))
-    (all_append (IsVote f q) (filter_map (offence_at f.arrays) (uses_at f store i)) (filter_map (offence_at f.arrays) (flat_map (uses_at f store) is))
-    (all_offences f q i (same_numbers _ _ h.0.0) h.0.1 (uses_at f store i) (uses_are f store i (length f.site.references) 0 None f.site.references (omega arith)))
+    (all_append (IsVote f q) (filter_map (offence_at f.arrays) (uses_at f store i))
+    (filter_map (offence_at f.arrays) (flat_map (uses_at f store) is))
+    (all_offences f q i (same_numbers _ _ h.0.0) h.0.1 (uses_at f store i)
+    (uses_are f store i (length f.site.references) 0 None f.site.references (omega arith)))
     (votes_in f store q is h.1))
 
 first_is : {A : Type 0} (P : A → Type 0) (xs : List A) (x : A) → AllByRecursion P xs → first_of xs ≡ Some x → P x
@@ -113,11 +124,13 @@ vote_is : (f : LoopFacts) (store : List (List ℤ)) (q : ℕ) (o : Offence) → 
 vote_is f store q o e =
     first_is (IsVote f q) (offences_in f.arrays f.site f.turn store (inspected_by f q)) o
     (votes_in f store q (inspected_by f q)
-    (all_filter (λ i. f.turn.low ≤ℤ i) (λ i. provisional_home f i == q) (iterations_of f.turn) (all_counted f.turn.low f.turn.low (count_between f.turn.low f.turn.high) (omega (arith, ints)))))
+    (all_filter (λ i. f.turn.low ≤ℤ i) (λ i. provisional_home f i == q) (iterations_of f.turn)
+    (all_counted f.turn.low f.turn.low (count_between f.turn.low f.turn.high) (omega (arith, ints)))))
     e
 
 -- a vote is read back from its letter
-read_back : (f : LoopFacts) (store : List (List ℤ)) (q : ℕ) → length f.site.references ≤ 64 → read_vote (vote_numbers (vote_of f store q)) ≡ vote_of f store q
+read_back : (f : LoopFacts) (store : List (List ℤ)) (q : ℕ) → length f.site.references ≤ 64 → read_vote (vote_numbers (vote_of f store q))
+    ≡ vote_of f store q
 read_back f store q few = by (vote_of f store q) refl
   where
     by : (v : Option Offence) → vote_of f store q ≡ v → read_vote (vote_numbers v) ≡ v
@@ -144,7 +157,8 @@ before f a b o p accepted first second less = elim (by_lt o.iteration p.iteratio
       let some : 0 < width = width_some (f.turn.high -ℤ f.turn.low +ℤ pos 1) f.nodes long accepted.some_nodes in
       let order : (p.iteration -ℤ f.turn.low) ≤ℤ (o.iteration -ℤ f.turn.low) = omega (arith, ints, later) in
       let homes : natural (p.iteration -ℤ f.turn.low) / width ≤ natural (o.iteration -ℤ f.turn.low) / width =
-      div_le (natural (p.iteration -ℤ f.turn.low)) (natural (o.iteration -ℤ f.turn.low)) width some (natural_le (p.iteration -ℤ f.turn.low) (o.iteration -ℤ f.turn.low) order) in
+      div_le (natural (p.iteration -ℤ f.turn.low)) (natural (o.iteration -ℤ f.turn.low)) width some
+      (natural_le (p.iteration -ℤ f.turn.low) (o.iteration -ℤ f.turn.low) order) in
       absurd (omega (arith, homes, first.home, second.home, less))
 ]
   where
@@ -169,12 +183,17 @@ one_before f store a b accepted less = by (vote_of f store a) (vote_of f store b
 all_before : (f : LoopFacts) (store : List (List ℤ)) (a b n : ℕ) → IsAccepted f → a < b
     → AllByRecursion (IsNotBefore (vote_of f store a)) (map (vote_of f store) (range_with_len b n))
 all_before f store a b zero accepted less = tt
-all_before f store a b (suc n) accepted less = (one_before f store a b accepted less, all_before f store a (b + 1) n accepted (omega (arith, less)))
+all_before f store a b (suc n) accepted less = (
+  one_before f store a b accepted less,
+  all_before f store a (b + 1) n accepted
+      (omega (arith, less)),
+)
 
 in_order : (f : LoopFacts) (store : List (List ℤ)) (a n : ℕ) → IsAccepted f → AreInOrder (map (vote_of f store) (range_with_len a n))
 in_order f store a zero accepted = tt
 in_order f store a (suc n) accepted = (
-  All-from_recursion (IsNotBefore (vote_of f store a)) (map (vote_of f store) (range_with_len (a + 1) n)) (all_before f store a (a + 1) n accepted (omega arith)),
+  All-from_recursion (IsNotBefore (vote_of f store a)) (map (vote_of f store) (range_with_len (a + 1) n))
+      (all_before f store a (a + 1) n accepted (omega arith)),
   in_order f store (a + 1) n accepted,
 )
 
@@ -186,7 +205,8 @@ first_same (Some o ∷ votes) = refl
 pub least_right : (f : LoopFacts) (owners : List (List ℕ)) (store : List (List ℤ)) (p : ℕ) → IsAccepted f
     → least_of (map read_vote (owed_in f owners store Vote p)) ≡ offence_of f.arrays f.site f.turn store
 least_right f owners store p accepted =
-    ap least_of (map_map_same read_vote (λ q. vote_numbers (vote_of f store q)) (vote_of f store) (λ q. read_back f store q accepted.site.few) (below f.nodes))
+    ap least_of (map_map_same read_vote (λ q. vote_numbers (vote_of f store q)) (vote_of f store)
+    (λ q. read_back f store q accepted.site.few) (below f.nodes))
     ∙ least_of-in_order (map (vote_of f store) (below f.nodes)) (in_order f store 0 f.nodes accepted)
     ∙ first_same (map (vote_of f store) (below f.nodes))
     ∙ votes_tell f store accepted.some_nodes

@@ -1,5 +1,6 @@
 -- What a node tells of iterations by itself is what the definitions say.
-use Rattle.std.proofs.Common.{◌≡◌, ℤ, Bool, true, false, cond, List, [], ◌∷◌, ◌++◌, map, filter, drop, Some, None, refl, ap, sym, ◌∙◌, append_assoc, append-nil}
+use Rattle.std.proofs.Common.{◌≡◌, ℤ, Bool, true, false, cond, List, [], ◌∷◌, ◌++◌, map, filter, drop, Some, None, refl, ap, sym, ◌∙◌}
+use Rattle.std.proofs.Common.{append_assoc, append-nil}
 use Rattle.std.specs.Prelude.{count_by}
 use Rattle.std.specs.List.{flat_map, cons_option}
 use Rattle.std.proofs.lemmas.List.Elements.{filter_map-append}
@@ -7,7 +8,7 @@ use Rattle.fd_program.specs.Homes.{uses_at}
 use Rattle.fd_program.specs.Uses.{gives_index, index_values, index_value, read_of}
 use Rattle.fd_program.specs.declared.loop_facts.LoopFacts.{LoopFacts}
 use Rattle.fd_program.specs.declared.loop_use.Use.{Use}
-use Rattle.chaos_reach.specs.ReachedLaws.{values_at, uses_are_reached, values_are_behind}
+use Rattle.inspect_uses.specs.ReachedLaws.{values_at, uses_are_reached, values_are_behind}
 use Rattle.chaos_inspect.specs.Walking.{uses_through}
 
 -- with the values of these iterations, what is evaluated are the loop's references
@@ -16,7 +17,8 @@ pub through : (f : LoopFacts) (store : List (List ℤ)) (is : List ℤ) (more : 
 through f store [] more = refl
 through f store (i ∷ is) more =
     let later = flat_map (values_at f store) is ++ more in
-    let rest : List Use → List Use = λ us. us ++ uses_through f is (drop (count_by (gives_index f.arrays) us) (values_at f store i ++ later)) in
+    let rest : List Use → List Use = λ us. us ++ uses_through f is (drop (count_by (gives_index f.arrays) us)
+    (values_at f store i ++ later)) in
     ap (uses_through f (i ∷ is)) (append_assoc (values_at f store i) (flat_map (values_at f store) is) more)
     ∙ ap rest (uses_are_reached f store i later)
     ∙ ap (λ vs. uses_at f store i ++ uses_through f is vs) (values_are_behind f store i later)
@@ -27,7 +29,8 @@ pub through_all : (f : LoopFacts) (store : List (List ℤ)) (is values : List �
 through_all f store is values e = ap (uses_through f is) (e ∙ sym (append-nil (flat_map (values_at f store) is))) ∙ through f store is []
 
 -- the values that index references give, of several iterations at once
-given_one : (f : LoopFacts) (store : List (List ℤ)) (us : List Use) → map (read_of store) (filter (gives_index f.arrays) us) ≡ index_values f.arrays store us
+given_one : (f : LoopFacts) (store : List (List ℤ)) (us : List Use) → map (read_of store) (filter (gives_index f.arrays) us)
+    ≡ index_values f.arrays store us
 given_one f store [] = refl
 given_one f store (u ∷ us) = by (gives_index f.arrays u) (read_of store u) (given_one f store us)
   where

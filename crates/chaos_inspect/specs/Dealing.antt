@@ -1,21 +1,8 @@
--- Rows of numbers dealt out to lists, and numbers drawn from lists, each from its front.
-use Rattle.std.specs.Prelude.{ℕ, ◌+◌, ℤ, ◌==◌, if◌then◌else◌, nat_lt, List, [], ◌∷◌, ◌++◌, length, map, filter, fold, slice_set}
-use Rattle.std.specs.List.{flat_map, slice_index_or}
+-- Numbers drawn from lists, each from its front.
+use Rattle.std.specs.Prelude.{ℕ, ◌+◌, ℤ, if◌then◌else◌, nat_lt, List, [], ◌∷◌, length, slice_set}
+use Rattle.std.specs.List.{slice_index_or}
 use Rattle.fd_words.specs.Lists.{list_at}
-use Rattle.chaos_dist.specs.Counting.{below}
 use Rattle.fd_program.specs.Stores.{number_at}
-
--- a row at the end of the list at a place
-abbrev pub appended_at : List (List ℤ) → ℕ → List ℤ → List (List ℤ)
-appended_at lists at row = slice_set lists at (list_at lists at ++ row)
-
--- list q has the rows of the items whose key is q
-abbrev pub deals : {A : Type 0} → (A → ℕ) → (A → List ℤ) → ℕ → List A → List (List ℤ)
-deals key row n xs = map (λ q. flat_map row (filter (λ x. key x == q) xs)) (below n)
-
--- the lists with the rows of more items
-abbrev pub dealt_onto : {A : Type 0} → (A → ℕ) → (A → List ℤ) → List (List ℤ) → List A → List (List ℤ)
-dealt_onto key row lists xs = fold (λ l x. appended_at l (key x) (row x)) lists xs
 
 -- how many numbers of the list at a place are drawn, once one more is
 abbrev pub one_drawn : List (List ℤ) → List ℕ → ℕ → List ℕ

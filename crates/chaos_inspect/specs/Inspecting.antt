@@ -2,29 +2,31 @@
 use Rattle.std.specs.Prelude.{◌≡◌, ℕ, ◌<◌, ◌≤◌, ℤ, Bool, if◌then◌else◌, List, length, map, Option, Some, None, is_some, IfSome}
 use Rattle.std.specs.List.{list_any}
 use Rattle.std.specs.Option.{option_and_then}
-use Rattle.chaos_asking.specs.Asks.{IsAsked}
-use Rattle.chaos_asking.specs.Laws.{uses_wanted}
+use Rattle.inspect_places.specs.Asks.{IsAsked}
+use Rattle.inspect_places.specs.Laws.{uses_wanted}
 use Rattle.chaos_hash.specs.Stamps.{Stamps}
-use Rattle.chaos_phases.specs.Fits.{Fits}
-use Rattle.chaos_prepare.specs.Preparing.{IsEntering}
-use Rattle.chaos_prepare.specs.Tables.{IsEntered, slots_of}
+use Rattle.plan_tables.specs.Fits.{Fits}
+use Rattle.inspect_enter.specs.Preparing.{IsEntering}
+use Rattle.plan_tables.specs.Tables.{IsEntered, slots_of}
 use Rattle.chaos_sched.specs.declared.prepared.Prepared.{Prepared}
 use Rattle.fd_words.specs.declared.place.Offence.{Offence}
 use Rattle.fd_program.specs.Homes.{inspected_by}
 use Rattle.fd_program.specs.Loops.{offence_of}
-use Rattle.fd_program.specs.Uses.{is_index}
+use Rattle.fd_words.specs.Roles.{is_index}
 use Rattle.fd_program.specs.declared.loop_facts.LoopFacts.{LoopFacts}
 use Rattle.fd_program.specs.declared.reference.Reference.{Reference}
-use Rattle.chaos_phases.specs.LoopLetters.{asks_places, indexes_of, owed_in, sent_in}
-use Rattle.chaos_phases.specs.declared.loop_phase.Asking.{Asking}
-use Rattle.chaos_phases.specs.declared.loop_phase.Asking.TheVariants.{Indexes, Homes, References}
-use Rattle.chaos_phases.specs.declared.loop_phase.LoopPhase.{LoopPhase}
-use Rattle.chaos_phases.specs.declared.loop_phase.LoopPhase.TheVariants.{DerefAsk, DerefAnswer, Gather, IndexAsk, IndexValues, Iterations, Scatter, ScheduleAsk, Vote}
-use Rattle.chaos_reach.specs.Accepted.{AreOwners, IsAccepted}
+use Rattle.plan_loop.specs.LoopLetters.{asks_places, indexes_of, owed_in, sent_in}
+use Rattle.plan_loop.specs.declared.loop_phase.Asking.{Asking}
+use Rattle.plan_loop.specs.declared.loop_phase.Asking.TheVariants.{Indexes, Homes, References}
+use Rattle.plan_loop.specs.declared.loop_phase.LoopPhase.{LoopPhase}
+use Rattle.plan_loop.specs.declared.loop_phase.LoopPhase.TheVariants.{DerefAsk, DerefAnswer, Gather, IndexAsk, IndexValues, Iterations}
+use Rattle.plan_loop.specs.declared.loop_phase.LoopPhase.TheVariants.{Scatter, ScheduleAsk, Vote}
+use Rattle.inspect_uses.specs.Accepted.{AreOwners, IsAccepted}
 use Rattle.chaos_inspect.specs.Met.{places_asked, rows_of, spot_met, values_of}
 use Rattle.chaos_inspect.specs.declared.inspection.Inspection.{Inspection}
 use Rattle.chaos_inspect.specs.declared.stage.Stage.{Stage}
-use Rattle.chaos_inspect.specs.declared.stage.Stage.TheVariants.{Seeking, Telling, Fetching, Answering, Voting, Refused, Homing, Entered, Ready}
+use Rattle.chaos_inspect.specs.declared.stage.Stage.TheVariants.{Seeking, Telling, Fetching, Answering, Voting, Refused, Homing, Entered}
+use Rattle.chaos_inspect.specs.declared.stage.Stage.TheVariants.{Ready}
 
 -- the phase that is due
 abbrev pub phase_of : Stage → Option LoopPhase
@@ -72,12 +74,14 @@ IsSeeking x owners store asking = IsAsked x.facts (uses_wanted x.facts owners st
 
 abbrev pub InHand : Inspection → List (List ℕ) → List (List ℤ) → List Stamps → Stage → Type 0
 InHand x owners store tables (Seeking asking) = IsSeeking x owners store asking
-InHand x owners store tables (Telling asking asked) = IsSeeking x owners store asking × (asked ≡ owed_in x.facts owners store (DerefAsk asking) x.me)
+InHand x owners store tables (Telling asking asked) = IsSeeking x owners store asking
+    × (asked ≡ owed_in x.facts owners store (DerefAsk asking) x.me)
 InHand x owners store tables Fetching = HasSpots x owners store
 InHand x owners store tables (Answering asked) = HasSpots x owners store × (asked ≡ owed_in x.facts owners store IndexAsk x.me)
 InHand x owners store tables Voting = HasValues x store
 InHand x owners store tables (Refused offence) = offence_of x.facts.arrays x.facts.site x.facts.turn store ≡ Some offence
-InHand x owners store tables (Homing told) = HasValues x store × HasNoOffence x store × (told ≡ places_asked x.facts owners store Homes x.me)
+InHand x owners store tables (Homing told) = HasValues x store × HasNoOffence x store
+    × (told ≡ places_asked x.facts owners store Homes x.me)
 InHand x owners store tables (Entered entering) = HasNoOffence x store × IsEntering x.facts owners store x.me tables entering
 InHand x owners store tables (Ready prepared) =
     HasNoOffence x store × Fits x.facts owners store (slots_of x.facts tables) x.me prepared × IsEntered x.facts owners store x.me tables
@@ -117,7 +121,8 @@ phase_first asks has = if asks then DerefAsk Indexes else if has then IndexAsk e
 abbrev pub first_phase : LoopFacts → LoopPhase
 first_phase f = phase_first (asks_places f Indexes) (has_indexes f)
 
--- the phase that follows one of an inspection, where no node has an offence; places of the references that tell homes are asked for or not, and those
+-- the phase that follows one of an inspection, where no node has an offence; places of the references that tell homes are asked for or not,
+-- and those
 -- of other references
 abbrev pub phase_behind : Bool → Bool → LoopPhase → Option LoopPhase
 phase_behind homes references (DerefAsk asking) = Some (DerefAnswer asking)

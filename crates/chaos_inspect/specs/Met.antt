@@ -5,11 +5,12 @@ use Rattle.fd_words.specs.declared.place.Place.{Place}
 use Rattle.fd_program.specs.Homes.{executed_by, inspected_by, owner_met}
 use Rattle.fd_program.specs.declared.loop_facts.LoopFacts.{LoopFacts}
 use Rattle.fd_program.specs.declared.loop_use.Use.{Use}
-use Rattle.chaos_asking.specs.Laws.{uses_wanted}
-use Rattle.chaos_phases.specs.LoopLetters.{iteration_row, local_met}
-use Rattle.chaos_phases.specs.declared.loop_phase.Asking.{Asking}
-use Rattle.chaos_reach.specs.Reached.{place_met}
-use Rattle.chaos_reach.specs.ReachedLaws.{values_at}
+use Rattle.inspect_places.specs.Laws.{uses_wanted}
+use Rattle.plan_loop.specs.LoopLetters.{iteration_row}
+use Rattle.fd_program.specs.Met.{local_met}
+use Rattle.plan_loop.specs.declared.loop_phase.Asking.{Asking}
+use Rattle.inspect_uses.specs.Reached.{place_met}
+use Rattle.inspect_uses.specs.ReachedLaws.{values_at}
 use Rattle.chaos_inspect.specs.declared.spot.Spot.{Spot}
 
 -- where the element stands that a reference reaches

@@ -1,14 +1,17 @@
 -- An inspection goes through the phases of its loop.
-use Rattle.std.specs.Prelude.{◌≡◌, refl, ℕ, ◌+◌, zero, suc, Bool, true, false, if◌then◌else◌, List, [], ◌∷◌, ◌++◌, Option, Some, None, ◌&&◌, ◌||◌}
+use Rattle.std.specs.Prelude.{◌≡◌, refl, ℕ, ◌+◌, zero, suc, Bool, true, false, if◌then◌else◌, List, [], ◌∷◌, ◌++◌, Option, Some, None, ◌&&◌}
+use Rattle.std.specs.Prelude.{◌||◌}
 use Rattle.std.specs.List.{list_any, enumerate_from}
-use Rattle.fd_program.specs.Uses.{is_index}
+use Rattle.fd_words.specs.Roles.{is_index}
 use Rattle.fd_program.specs.declared.loop_facts.LoopFacts.{LoopFacts}
 use Rattle.fd_program.specs.declared.reference.Reference.{Reference}
-use Rattle.chaos_phases.specs.LoopLetters.{asks_places, is_for, is_map, layout_for, phases_from_vote, phases_to_vote}
-use Rattle.chaos_phases.specs.declared.loop_phase.Asking.{Asking}
-use Rattle.chaos_phases.specs.declared.loop_phase.Asking.TheVariants.{Indexes, Homes, References}
-use Rattle.chaos_phases.specs.declared.loop_phase.LoopPhase.{LoopPhase}
-use Rattle.chaos_phases.specs.declared.loop_phase.LoopPhase.TheVariants.{DerefAsk, DerefAnswer, IndexAsk, IndexValues, Iterations, ScheduleAsk, Vote}
+use Rattle.plan_loop.specs.LoopLetters.{asks_places, is_for, phases_from_vote, phases_to_vote}
+use Rattle.fd_program.specs.Met.{is_map, layout_for}
+use Rattle.plan_loop.specs.declared.loop_phase.Asking.{Asking}
+use Rattle.plan_loop.specs.declared.loop_phase.Asking.TheVariants.{Indexes, Homes, References}
+use Rattle.plan_loop.specs.declared.loop_phase.LoopPhase.{LoopPhase}
+use Rattle.plan_loop.specs.declared.loop_phase.LoopPhase.TheVariants.{DerefAsk, DerefAnswer, IndexAsk, IndexValues, Iterations, ScheduleAsk}
+use Rattle.plan_loop.specs.declared.loop_phase.LoopPhase.TheVariants.{Vote}
 use Rattle.chaos_inspect.specs.Inspecting.{first_phase, has_indexes, phase_after, phase_behind, phase_first}
 
 -- a phase and so many that follow it, one after another
@@ -21,7 +24,7 @@ followed after (suc n) (Some phase) = phase ∷ followed after n (after phase)
 abbrev pub PhasesFollow : Type 0
 PhasesFollow = (f : LoopFacts) → followed (phase_after f) 11 (Some (first_phase f)) ≡ phases_to_vote f ++ phases_from_vote f
 
-indexes_from : (f : LoopFacts) (number : ℕ) (references : List Reference)
+pub indexes_from : (f : LoopFacts) (number : ℕ) (references : List Reference)
     → list_any (λ (n, r). is_for f Indexes n r.role && is_map (layout_for f r.array).form) (enumerate_from number references) ≡ true
     → list_any (λ (r : Reference). is_index r.role) references ≡ true
 indexes_from f number [] e = e
@@ -43,7 +46,8 @@ phases_follow f =
     by (asks_places f Indexes) (has_indexes f) (asks_places f Homes) (asks_places f References) (indexes_from f 1 f.site.references)
   where
     by : (a i h r : Bool) → (a ≡ true → i ≡ true)
-        → followed (phase_behind h r) 11 (Some (phase_first a i)) ≡ (asked a Indexes ++ fetched i ++ Vote ∷ []) ++ (asked h Homes ++ Iterations ∷ [] ++ asked r References ++ ScheduleAsk ∷ [])
+        → followed (phase_behind h r) 11 (Some (phase_first a i)) ≡ (asked a Indexes ++ fetched i ++ Vote ∷ [])
+        ++ (asked h Homes ++ Iterations ∷ [] ++ asked r References ++ ScheduleAsk ∷ [])
     by true true true true e = refl
     by true true true false e = refl
     by true true false true e = refl

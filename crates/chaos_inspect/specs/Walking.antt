@@ -1,18 +1,20 @@
 -- What a node tells of iterations by itself: without the store, from the values that index references give and the places that it was told.
-use Rattle.std.specs.Prelude.{ℕ, ℤ, pos, negsuc, Bool, ◌&&◌, if◌then◌else◌, List, [], ◌∷◌, ◌++◌, map, drop, take, count_by, slice_get, unwrap_or}
+use Rattle.std.specs.Prelude.{ℕ, ℤ, pos, negsuc, Bool, ◌&&◌, if◌then◌else◌, List, [], ◌∷◌, ◌++◌, map, drop, take, count_by, slice_get}
+use Rattle.std.specs.Prelude.{unwrap_or}
 use Rattle.std.specs.List.{flat_map}
 use Rattle.std.specs.Int.{w64, cast_signed}
 use Rattle.fd_words.specs.Lists.{list_at}
 use Rattle.fd_words.specs.declared.place.Place.{Place}
-use Rattle.chaos_phases.specs.LoopLetters.{is_for, is_map, layout_for}
-use Rattle.chaos_phases.specs.declared.loop_phase.Asking.{Asking}
-use Rattle.chaos_phases.specs.declared.loop_phase.Asking.TheVariants.{Homes}
+use Rattle.plan_loop.specs.LoopLetters.{is_for}
+use Rattle.fd_program.specs.Met.{is_map, layout_for}
+use Rattle.plan_loop.specs.declared.loop_phase.Asking.{Asking}
+use Rattle.plan_loop.specs.declared.loop_phase.Asking.TheVariants.{Homes}
 use Rattle.fd_program.specs.Homes.{home_by}
 use Rattle.fd_program.specs.Stores.{number_at}
 use Rattle.fd_program.specs.Uses.{gives_index, is_met}
 use Rattle.fd_program.specs.declared.loop_facts.LoopFacts.{LoopFacts}
 use Rattle.fd_program.specs.declared.loop_use.Use.{Use}
-use Rattle.chaos_reach.specs.Reached.{uses_with, place_reached}
+use Rattle.inspect_uses.specs.Reached.{uses_with, place_reached}
 use Rattle.chaos_inspect.specs.declared.spot.Spot.{Spot}
 
 -- ---- the references of several iterations

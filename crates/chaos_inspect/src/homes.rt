@@ -3,18 +3,17 @@ ghost use Rattle.std.specs.Prelude.{◌≡◌, ◌≤◌, ◌∷◌, ◌++◌, l
 ghost use Rattle.std.specs.List.{flat_map};
 ghost use Rattle.fd_program.specs.Homes.{home_by};
 ghost use Rattle.chaos_dist.specs.Homes.{most_of};
-ghost use Rattle.chaos_reach.specs.Accepted.{IsAccepted};
-ghost use Rattle.chaos_inspect.specs.Dealing.{appended_at, deals};
+ghost use Rattle.inspect_uses.specs.Accepted.{IsAccepted};
+ghost use Rattle.list_laws.specs.Rows.{appended_at, deals};
 ghost use Rattle.chaos_inspect.specs.Walking.{home_told, homed_through};
 
-use crate::dealing::append_at;
 use crate::spot::{Spot, Spots, behind_all, note};
 use crate::votes::behind;
 use chaos_part::home_by_most;
-use chaos_phases::Asking;
-use chaos_reach::{given, uses};
 use fd_program::{HomeRule, LoopFacts, Use};
 use fd_words::{Memory, NumberLists, Numbers, Place};
+use inspect_uses::{given, uses};
+use plan_loop::Asking;
 use smallvec::SmallVec;
 use std::alloc::Global;
 
@@ -26,7 +25,7 @@ fn most(alloc: Global, nodes: u32, spots: &[Spot]) -> Result<u32, Memory>
 {
     let mut owners: SmallVec<u32, 64> = SmallVec::new(alloc);
     for spot in spots {
-        owners.push(spot.owner).map_err(|_| Memory)?;
+        owners.push(spot.owner)?;
     }
     Ok(home_by_most(owners.as_slice(), nodes))
 }
@@ -84,7 +83,7 @@ fn append_iteration(
     ensures { OnOk result (lists.new ≡ appended_at lists.old home (i ∷ values.now)) }
 {
     lists.push_to(u64::from(home), i)?;
-    append_at(lists, home, values)
+    lists.append_to(u64::from(home), values)
 }
 
 /// The rows of these iterations, whose index references give these values, to the homes; `told` has the
@@ -97,7 +96,8 @@ pub fn homed(
     told: &[Place],
 ) -> Result<NumberLists, Memory>
     requires { IsAccepted facts.now }
-    ensures { IfOk result (λ lists. lists ≡ deals (λ h. h.home) (λ h. h.row) facts.now.nodes (homed_through facts.now iterations.now values.now told.now)) }
+    ensures { IfOk result (λ lists. lists ≡ deals (λ h. h.home) (λ h. h.row) facts.now.nodes
+        (homed_through facts.now iterations.now values.now told.now)) }
 {
     let arrays = facts.arrays.as_slice();
     let mut lists = NumberLists::empty(alloc, facts.nodes)?;

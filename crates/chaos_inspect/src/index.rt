@@ -1,11 +1,13 @@
 //! The letters by which the values of index arrays are fetched.
 ghost use Rattle.std.specs.Prelude.{◌≡◌, pos, map, replicate, IfOk};
-ghost use Rattle.chaos_inspect.specs.Dealing.{deals, draws};
+ghost use Rattle.list_laws.specs.Rows.{deals};
+ghost use Rattle.chaos_inspect.specs.Dealing.{draws};
 ghost use Rattle.chaos_inspect.specs.Walking.{piece_value, piece_values, spot_ask};
 
-use crate::dealing::{MOST_NODES, append_at, draw};
+use crate::dealing::draw;
 use crate::spot::Spot;
 use crate::votes::behind;
+use chaos_dist::MOST_NODES;
 use fd_words::{Memory, NumberLists, Numbers};
 use std::alloc::Global;
 
@@ -16,7 +18,7 @@ pub fn asks(alloc: Global, nodes: u32, spots: &[Spot]) -> Result<NumberLists, Me
     let mut lists = NumberLists::empty(alloc, nodes)?;
     for spot in spots {
         let row = [i64::from(spot.array), spot.local.cast_signed()];
-        append_at(&mut lists, spot.owner, row.as_slice())?;
+        lists.append_to(u64::from(spot.owner), row.as_slice())?;
     }
     Ok(lists)
 }
@@ -26,18 +28,9 @@ fn value(pieces: &NumberLists, array: i64, local: i64) -> i64
     ensures { result ≡ piece_value pieces.now array local }
 {
     match (u64::try_from(array), u64::try_from(local)) {
-        (Ok(array), Ok(local)) => value_at(pieces, array, local),
+        (Ok(array), Ok(local)) => pieces.value_at(array, local),
         (Ok(_), Err(_)) => 0,
         (Err(_), _) => 0,
-    }
-}
-
-fn value_at(pieces: &NumberLists, array: u64, local: u64) -> i64
-    ensures { result ≡ piece_value pieces.now (pos array) (pos local) }
-{
-    match pieces.get(array) {
-        Some(piece) => piece.get(local).unwrap_or(0),
-        None => 0,
     }
 }
 

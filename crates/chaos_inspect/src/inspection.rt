@@ -1,32 +1,34 @@
 ghost use Rattle.std.specs.Prelude.{◌≡◌, ◌<◌, ◌≤◌, ℕ, ℤ, false, List, length, Some, None, IfOk, OnOk, OnErr};
 ghost use Rattle.std.specs.List.{list_any};
 ghost use Rattle.std.specs.Option.{option_map};
-ghost use Rattle.chaos_asking.specs.Asks.{ArePages};
+ghost use Rattle.inspect_places.specs.Asks.{ArePages};
 ghost use Rattle.fd_program.specs.Loops.{offence_of};
 ghost use Rattle.fd_program.specs.Places.{parts_of};
-ghost use Rattle.fd_program.specs.Uses.{is_index};
-ghost use Rattle.chaos_phases.specs.LoopLetters.{asks_places, kind_in_loop, owed_in, sent_in};
-ghost use Rattle.chaos_phases.specs.declared.loop_phase.Asking.{Asking as AskingOf};
-ghost use Rattle.chaos_phases.specs.declared.loop_phase.Asking.TheVariants as round;
-ghost use Rattle.chaos_phases.specs.declared.loop_phase.LoopPhase.TheVariants as phase;
-ghost use Rattle.chaos_reach.specs.Accepted.{AreOwners, IsAccepted};
+ghost use Rattle.fd_words.specs.Roles.{is_index};
+ghost use Rattle.plan_loop.specs.LoopLetters.{asks_places, kind_in_loop, owed_in, sent_in};
+ghost use Rattle.plan_loop.specs.declared.loop_phase.Asking.{Asking as AskingOf};
+ghost use Rattle.plan_loop.specs.declared.loop_phase.Asking.TheVariants as round;
+ghost use Rattle.plan_loop.specs.declared.loop_phase.LoopPhase.TheVariants as phase;
+ghost use Rattle.inspect_uses.specs.Accepted.{AreOwners, IsAccepted};
 ghost use Rattle.chaos_hash.specs.Stamps.{Stamps};
-ghost use Rattle.chaos_phases.specs.Fits.{Fits};
-ghost use Rattle.chaos_prepare.specs.Tables.{HasPlaces, IsEntered, KeepsOtherStamps, slots_of};
-ghost use Rattle.chaos_inspect.specs.Inspecting.{Follows, HasNoOffence, HasSpots, HasValues, IsDue, IsInspecting, IsNext, IsOwed, IsReady, IsSeeking, IsVoted, first_phase, first_stage, prepared_in, offence_in, phase_of};
+ghost use Rattle.plan_tables.specs.Fits.{Fits};
+ghost use Rattle.plan_tables.specs.Tables.{HasPlaces, IsEntered, KeepsOtherStamps, slots_of};
+ghost use Rattle.chaos_inspect.specs.Inspecting.{Follows, HasNoOffence, HasSpots, HasValues, IsDue, IsInspecting, IsNext, IsOwed, IsReady};
+ghost use Rattle.chaos_inspect.specs.Inspecting.{IsSeeking, IsVoted, first_phase, first_stage, prepared_in, offence_in, phase_of};
 ghost use Rattle.chaos_inspect.specs.declared.stage.Stage.TheVariants as stage;
 ghost use Rattle.chaos_inspect.specs.Met.{places_asked, rows_of};
 
 use crate::spot::Spots;
 use crate::stage::Stage;
 use crate::{homes, index, range, round, spot, votes};
-use chaos_asking::{Asked, PageSet};
 use chaos_letter::Kind;
-use chaos_phases::{Asking, LoopPhase};
-use chaos_prepare::{TableSet, enter, uses_to_place};
 use chaos_sched::Prepared;
 use fd_program::{LoopFacts, Reference};
 use fd_words::{Memory, NumberLists, Numbers, Offence, Place, Places, Role};
+use inspect_enter::{enter, uses_to_place};
+use inspect_places::{Asked, PageSet};
+use node_tables::TableSet;
+use plan_loop::{Asking, LoopPhase};
 use std::alloc::Global;
 
 /// One inspection of a FORALL on one node.
@@ -77,7 +79,8 @@ impl Inspection {
         ensures me { IfOk result (λ x. x.me ≡ me) }
         ensures phase { IfOk result (λ x. phase_of x.stage ≡ Some (first_phase facts)) }
         ensures offence { IfOk result (λ x. offence_in x.stage ≡ None) }
-        ensures inspecting { IfOk result (λ x. (owners : List (List ℕ)) (store : List (List ℤ)) (tables : List Stamps) → AreOwners facts owners → IsInspecting x owners store tables) }
+        ensures inspecting { IfOk result (λ x. (owners : List (List ℕ)) (store : List (List ℤ)) (tables : List Stamps)
+            → AreOwners facts owners → IsInspecting x owners store tables) }
     {
         let mine = range::inspected(alloc, &facts, me)?;
         let seeks = round::asks(&facts, Asking::Indexes);
@@ -160,7 +163,8 @@ impl Inspection {
 
     /// The asks for places, to the nodes that keep the pages.
     fn place_asks(&self, alloc: Global) -> Result<NumberLists, Memory>
-        ensures { IfOk result (λ lists. (owners : List (List ℕ)) (store : List (List ℤ)) (asking : AskingOf) → IsSeeking self.now owners store asking
+        ensures { IfOk result (λ lists. (owners : List (List ℕ)) (store : List (List ℤ)) (asking : AskingOf)
+            → IsSeeking self.now owners store asking
             → lists ≡ sent_in self.now.facts owners store (phase.DerefAsk asking) self.now.me) }
     {
         self.asked.asks(alloc, &self.facts)
@@ -169,7 +173,8 @@ impl Inspection {
     /// The asks for the values of index arrays.
     fn asks(&self, alloc: Global) -> Result<NumberLists, Memory>
         requires { IsAccepted self.now.facts }
-        ensures { IfOk result (λ lists. (owners : List (List ℕ)) (store : List (List ℤ)) (tables : List Stamps) → IsInspecting self.now owners store tables → HasSpots self.now owners store
+        ensures { IfOk result (λ lists. (owners : List (List ℕ)) (store : List (List ℤ)) (tables : List Stamps)
+            → IsInspecting self.now owners store tables → HasSpots self.now owners store
             → lists ≡ sent_in self.now.facts owners store phase.IndexAsk self.now.me) }
     {
         index::asks(alloc, self.facts.nodes, self.spots.as_slice())
@@ -183,7 +188,8 @@ impl Inspection {
         asked: &NumberLists,
     ) -> Result<NumberLists, Memory>
         requires { IsAccepted self.now.facts }
-        ensures { IfOk result (λ lists. (owners : List (List ℕ)) (store : List (List ℤ)) (tables : List Stamps) → IsInspecting self.now owners store tables
+        ensures { IfOk result (λ lists. (owners : List (List ℕ)) (store : List (List ℤ)) (tables : List Stamps)
+            → IsInspecting self.now owners store tables
             → pieces.now ≡ parts_of self.now.facts.arrays owners store self.now.me
             → asked.now ≡ owed_in self.now.facts owners store phase.IndexAsk self.now.me
             → lists ≡ sent_in self.now.facts owners store phase.IndexValues self.now.me) }
@@ -194,7 +200,8 @@ impl Inspection {
     /// The least offence among the iterations that this node inspects, to all.
     fn votes(&self, alloc: Global) -> Result<NumberLists, Memory>
         requires { IsAccepted self.now.facts }
-        ensures { IfOk result (λ lists. (owners : List (List ℕ)) (store : List (List ℤ)) (tables : List Stamps) → IsInspecting self.now owners store tables
+        ensures { IfOk result (λ lists. (owners : List (List ℕ)) (store : List (List ℤ)) (tables : List Stamps)
+            → IsInspecting self.now owners store tables
             → HasValues self.now store
             → lists ≡ sent_in self.now.facts owners store phase.Vote self.now.me) }
     {
@@ -211,8 +218,10 @@ impl Inspection {
     /// The iterations that this node inspects, to their homes.
     fn home_rows(&self, alloc: Global, told: &[Place]) -> Result<NumberLists, Memory>
         requires { IsAccepted self.now.facts }
-        ensures { IfOk result (λ lists. (owners : List (List ℕ)) (store : List (List ℤ)) (tables : List Stamps) → IsInspecting self.now owners store tables
-            → HasValues self.now store → HasNoOffence self.now store → told.now ≡ places_asked self.now.facts owners store round.Homes self.now.me
+        ensures { IfOk result (λ lists. (owners : List (List ℕ)) (store : List (List ℤ)) (tables : List Stamps)
+            → IsInspecting self.now owners store tables
+            → HasValues self.now store → HasNoOffence self.now store → told.now ≡ places_asked self.now.facts owners store round.Homes
+            self.now.me
             → lists ≡ sent_in self.now.facts owners store phase.Iterations self.now.me) }
     {
         homes::homed(
@@ -233,12 +242,14 @@ impl Inspection {
         pages: &PageSet,
     ) -> Result<NumberLists, Memory>
         requires { IsAccepted self.now.facts }
-        ensures { IfOk result (λ lists. (owners : List (List ℕ)) (store : List (List ℤ)) (tables : List Stamps) → IsInspecting self.now owners store tables
-            → pieces.now ≡ parts_of self.now.facts.arrays owners store self.now.me → ArePages self.now.facts self.now.me owners pages.now → IsDue self.now owners store lists) }
+        ensures { IfOk result (λ lists. (owners : List (List ℕ)) (store : List (List ℤ)) (tables : List Stamps)
+            → IsInspecting self.now owners store tables
+            → pieces.now ≡ parts_of self.now.facts.arrays owners store self.now.me → ArePages self.now.facts self.now.me owners pages.now
+            → IsDue self.now owners store lists) }
     {
         match &self.stage {
             Stage::Seeking(_) => self.place_asks(alloc),
-            Stage::Telling(_, asked) => chaos_asking::answers(alloc, &self.facts, pages, asked),
+            Stage::Telling(_, asked) => inspect_places::answers(alloc, &self.facts, pages, asked),
             Stage::Fetching => self.asks(alloc),
             Stage::Answering(asked) => self.answers(alloc, pieces, asked),
             Stage::Voting => self.votes(alloc),
@@ -262,7 +273,8 @@ impl Inspection {
         ensures me { self.new.me ≡ self.old.me }
         ensures err { OnErr result (self.new ≡ self.old) }
         ensures next { OnOk result (Follows self.old.facts (phase.DerefAsk asking) self.new.stage) }
-        ensures inspecting { OnOk result ((owners : List (List ℕ)) (store : List (List ℤ)) (tables : List Stamps) → IsInspecting self.old owners store tables
+        ensures inspecting { OnOk result ((owners : List (List ℕ)) (store : List (List ℤ)) (tables : List Stamps)
+            → IsInspecting self.old owners store tables
             → IsSeeking self.old owners store asking → taken.now ≡ owed_in self.old.facts owners store (phase.DerefAsk asking) self.old.me
             → IsInspecting self.new owners store tables) }
     {
@@ -278,7 +290,8 @@ impl Inspection {
         ensures me { self.new.me ≡ self.old.me }
         ensures err { OnErr result (self.new ≡ self.old) }
         ensures next { OnOk result (Follows self.old.facts (phase.DerefAnswer round.Indexes) self.new.stage) }
-        ensures inspecting { OnOk result ((owners : List (List ℕ)) (store : List (List ℤ)) (tables : List Stamps) → IsInspecting self.old owners store tables
+        ensures inspecting { OnOk result ((owners : List (List ℕ)) (store : List (List ℤ)) (tables : List Stamps)
+            → IsInspecting self.old owners store tables
             → told.now ≡ places_asked self.old.facts owners store round.Indexes self.old.me → IsInspecting self.new owners store tables) }
     {
         let spots = spot::spots(alloc, &self.facts, self.mine.as_slice(), told)?;
@@ -300,11 +313,14 @@ impl Inspection {
         ensures me { self.new.me ≡ self.old.me }
         ensures err { OnErr result (self.new ≡ self.old) }
         ensures next { OnOk result (Follows self.old.facts (phase.DerefAnswer round.References) self.new.stage) }
-        ensures inspecting { OnOk result ((owners : List (List ℕ)) (store : List (List ℤ)) (before : List Stamps) → IsInspecting self.old owners store before
-            → IsSeeking self.old owners store round.References → told.now ≡ places_asked self.old.facts owners store round.References self.old.me
+        ensures inspecting { OnOk result ((owners : List (List ℕ)) (store : List (List ℤ)) (before : List Stamps)
+            → IsInspecting self.old owners store before
+            → IsSeeking self.old owners store round.References → told.now ≡ places_asked self.old.facts owners store round.References
+            self.old.me
             → IsInspecting self.new owners store tables.new) }
         ensures places { (owners : List (List ℕ)) (store : List (List ℤ)) (before : List Stamps) → IsInspecting self.old owners store before
-            → IsSeeking self.old owners store round.References → told.now ≡ places_asked self.old.facts owners store round.References self.old.me
+            → IsSeeking self.old owners store round.References → told.now ≡ places_asked self.old.facts owners store round.References
+            self.old.me
             → HasPlaces owners tables.old → HasPlaces owners tables.new }
         ensures others { KeepsOtherStamps self.old.facts tables.old tables.new }
         ensures count { length tables.new ≡ length tables.old }
@@ -324,8 +340,10 @@ impl Inspection {
     /// The places that were asked for in this round.
     fn told(&self, alloc: Global, taken: &NumberLists) -> Result<Places, Memory>
         requires { IsAccepted self.now.facts }
-        ensures { IfOk result (λ places. (owners : List (List ℕ)) (store : List (List ℤ)) (asking : AskingOf) → AreOwners self.now.facts owners
-            → IsSeeking self.now owners store asking → taken.now ≡ owed_in self.now.facts owners store (phase.DerefAnswer asking) self.now.me
+        ensures { IfOk result (λ places. (owners : List (List ℕ)) (store : List (List ℤ)) (asking : AskingOf)
+            → AreOwners self.now.facts owners
+            → IsSeeking self.now owners store asking → taken.now ≡ owed_in self.now.facts owners store (phase.DerefAnswer asking)
+            self.now.me
             → places ≡ places_asked self.now.facts owners store asking self.now.me) }
     {
         self.asked.places(alloc, &self.facts, taken)
@@ -346,10 +364,12 @@ impl Inspection {
         ensures err { OnErr result (self.new ≡ self.old) }
         ensures next { OnOk result (Follows self.old.facts (phase.DerefAnswer asking) self.new.stage) }
         ensures inspecting { OnOk result ((owners : List (List ℕ)) (store : List (List ℤ)) → IsInspecting self.old owners store tables.old
-            → IsSeeking self.old owners store asking → taken.now ≡ owed_in self.old.facts owners store (phase.DerefAnswer asking) self.old.me
+            → IsSeeking self.old owners store asking → taken.now ≡ owed_in self.old.facts owners store (phase.DerefAnswer asking)
+            self.old.me
             → IsInspecting self.new owners store tables.new) }
         ensures places { (owners : List (List ℕ)) (store : List (List ℤ)) → IsInspecting self.old owners store tables.old
-            → IsSeeking self.old owners store asking → taken.now ≡ owed_in self.old.facts owners store (phase.DerefAnswer asking) self.old.me
+            → IsSeeking self.old owners store asking → taken.now ≡ owed_in self.old.facts owners store (phase.DerefAnswer asking)
+            self.old.me
             → HasPlaces owners tables.old → HasPlaces owners tables.new }
         ensures others { KeepsOtherStamps self.old.facts tables.old tables.new }
         ensures count { length tables.new ≡ length tables.old }
@@ -370,8 +390,10 @@ impl Inspection {
         ensures me { self.new.me ≡ self.old.me }
         ensures err { OnErr result (self.new ≡ self.old) }
         ensures next { OnOk result (Follows self.old.facts phase.IndexAsk self.new.stage) }
-        ensures inspecting { OnOk result ((owners : List (List ℕ)) (store : List (List ℤ)) (tables : List Stamps) → IsInspecting self.old owners store tables
-            → HasSpots self.old owners store → taken.now ≡ owed_in self.old.facts owners store phase.IndexAsk self.old.me → IsInspecting self.new owners store tables) }
+        ensures inspecting { OnOk result ((owners : List (List ℕ)) (store : List (List ℤ)) (tables : List Stamps)
+            → IsInspecting self.old owners store tables
+            → HasSpots self.old owners store → taken.now ≡ owed_in self.old.facts owners store phase.IndexAsk self.old.me
+            → IsInspecting self.new owners store tables) }
     {
         let asked = taken.copy(alloc)?;
         self.stage = Stage::Answering(asked);
@@ -384,8 +406,10 @@ impl Inspection {
         ensures me { self.new.me ≡ self.old.me }
         ensures err { OnErr result (self.new ≡ self.old) }
         ensures next { OnOk result (Follows self.old.facts phase.IndexValues self.new.stage) }
-        ensures inspecting { OnOk result ((owners : List (List ℕ)) (store : List (List ℤ)) (tables : List Stamps) → IsInspecting self.old owners store tables
-            → HasSpots self.old owners store → taken.now ≡ owed_in self.old.facts owners store phase.IndexValues self.old.me → IsInspecting self.new owners store tables) }
+        ensures inspecting { OnOk result ((owners : List (List ℕ)) (store : List (List ℤ)) (tables : List Stamps)
+            → IsInspecting self.old owners store tables
+            → HasSpots self.old owners store → taken.now ≡ owed_in self.old.facts owners store phase.IndexValues self.old.me
+            → IsInspecting self.new owners store tables) }
     {
         let values = index::values(alloc, self.spots.as_slice(), taken)?;
         self.values = values;
@@ -400,7 +424,8 @@ impl Inspection {
         ensures me { self.new.me ≡ self.old.me }
         ensures err { OnErr result (self.new ≡ self.old) }
         ensures stage { OnOk result ((offence_in self.new.stage ≡ None) × (phase_of self.new.stage ≡ Some (phase.DerefAsk round.Homes))) }
-        ensures inspecting { OnOk result ((owners : List (List ℕ)) (store : List (List ℤ)) (tables : List Stamps) → IsInspecting self.old owners store tables
+        ensures inspecting { OnOk result ((owners : List (List ℕ)) (store : List (List ℤ)) (tables : List Stamps)
+            → IsInspecting self.old owners store tables
             → HasValues self.old store → HasNoOffence self.old store → IsInspecting self.new owners store tables) }
     {
         let asked = round::asked(
@@ -422,7 +447,8 @@ impl Inspection {
         ensures me { self.new.me ≡ self.old.me }
         ensures err { OnErr result (self.new ≡ self.old) }
         ensures next { OnOk result (Follows self.old.facts phase.Vote self.new.stage) }
-        ensures inspecting { OnOk result ((owners : List (List ℕ)) (store : List (List ℤ)) (tables : List Stamps) → IsInspecting self.old owners store tables
+        ensures inspecting { OnOk result ((owners : List (List ℕ)) (store : List (List ℤ)) (tables : List Stamps)
+            → IsInspecting self.old owners store tables
             → HasValues self.old store → HasNoOffence self.old store → IsInspecting self.new owners store tables) }
     {
         if round::asks(&self.facts, Asking::Homes) {
@@ -439,8 +465,10 @@ impl Inspection {
         ensures me { self.new.me ≡ self.old.me }
         ensures err { OnErr result (self.new ≡ self.old) }
         ensures next { OnOk result (IsNext self.old.facts stage.Voting self.new.stage) }
-        ensures inspecting { OnOk result ((owners : List (List ℕ)) (store : List (List ℤ)) (tables : List Stamps) → IsInspecting self.old owners store tables
-            → HasValues self.old store → taken.now ≡ owed_in self.old.facts owners store phase.Vote self.old.me → IsInspecting self.new owners store tables) }
+        ensures inspecting { OnOk result ((owners : List (List ℕ)) (store : List (List ℤ)) (tables : List Stamps)
+            → IsInspecting self.old owners store tables
+            → HasValues self.old store → taken.now ≡ owed_in self.old.facts owners store phase.Vote self.old.me
+            → IsInspecting self.new owners store tables) }
     {
         let vote = votes::least_told(alloc, taken.as_slice())?;
         match vote {
@@ -458,9 +486,12 @@ impl Inspection {
         ensures facts { self.new.facts ≡ self.old.facts }
         ensures me { self.new.me ≡ self.old.me }
         ensures err { OnErr result (self.new ≡ self.old) }
-        ensures stage { OnOk result ((offence_in self.new.stage ≡ None) × (phase_of self.new.stage ≡ Some (phase.DerefAsk round.References))) }
-        ensures inspecting { OnOk result ((owners : List (List ℕ)) (store : List (List ℤ)) (tables : List Stamps) → IsInspecting self.old owners store tables
-            → HasNoOffence self.old store → rows ≡ rows_of self.old.facts owners store self.old.me → IsInspecting self.new owners store tables) }
+        ensures stage { OnOk result ((offence_in self.new.stage ≡ None)
+            × (phase_of self.new.stage ≡ Some (phase.DerefAsk round.References))) }
+        ensures inspecting { OnOk result ((owners : List (List ℕ)) (store : List (List ℤ)) (tables : List Stamps)
+            → IsInspecting self.old owners store tables
+            → HasNoOffence self.old store → rows ≡ rows_of self.old.facts owners store self.old.me
+            → IsInspecting self.new owners store tables) }
     {
         let uses = uses_to_place(alloc, &self.facts, rows.as_slice())?;
         let asked = Asked::new(alloc, &self.facts, uses.as_slice())?;
@@ -483,11 +514,14 @@ impl Inspection {
         ensures me { self.new.me ≡ self.old.me }
         ensures err { OnErr result (self.new ≡ self.old) }
         ensures stage { OnOk result ((offence_in self.new.stage ≡ None) × (phase_of self.new.stage ≡ Some phase.ScheduleAsk)) }
-        ensures inspecting { OnOk result ((owners : List (List ℕ)) (store : List (List ℤ)) (before : List Stamps) → IsInspecting self.old owners store before
-            → HasNoOffence self.old store → rows.now ≡ rows_of self.old.facts owners store self.old.me → asks_places self.old.facts round.References ≡ false
+        ensures inspecting { OnOk result ((owners : List (List ℕ)) (store : List (List ℤ)) (before : List Stamps)
+            → IsInspecting self.old owners store before
+            → HasNoOffence self.old store → rows.now ≡ rows_of self.old.facts owners store self.old.me
+            → asks_places self.old.facts round.References ≡ false
             → IsInspecting self.new owners store tables.new) }
         ensures places { (owners : List (List ℕ)) (store : List (List ℤ)) (before : List Stamps) → IsInspecting self.old owners store before
-            → HasNoOffence self.old store → rows.now ≡ rows_of self.old.facts owners store self.old.me → asks_places self.old.facts round.References ≡ false
+            → HasNoOffence self.old store → rows.now ≡ rows_of self.old.facts owners store self.old.me
+            → asks_places self.old.facts round.References ≡ false
             → HasPlaces owners tables.old → HasPlaces owners tables.new }
         ensures others { KeepsOtherStamps self.old.facts tables.old tables.new }
         ensures count { length tables.new ≡ length tables.old }
@@ -512,7 +546,8 @@ impl Inspection {
         ensures err { OnErr result (self.new ≡ self.old) }
         ensures next { OnOk result (Follows self.old.facts phase.Iterations self.new.stage) }
         ensures inspecting { OnOk result ((owners : List (List ℕ)) (store : List (List ℤ)) → IsInspecting self.old owners store tables.old
-            → HasNoOffence self.old store → taken.now ≡ owed_in self.old.facts owners store phase.Iterations self.old.me → IsInspecting self.new owners store tables.new) }
+            → HasNoOffence self.old store → taken.now ≡ owed_in self.old.facts owners store phase.Iterations self.old.me
+            → IsInspecting self.new owners store tables.new) }
         ensures places { (owners : List (List ℕ)) (store : List (List ℤ)) → IsInspecting self.old owners store tables.old
             → HasNoOffence self.old store → taken.now ≡ owed_in self.old.facts owners store phase.Iterations self.old.me
             → HasPlaces owners tables.old → HasPlaces owners tables.new }

@@ -1,38 +1,20 @@
 //! The rounds in which an inspection asks for places.
 ghost use Rattle.std.specs.Prelude.{◌≡◌, ◌≤◌, ◌∷◌, ◌++◌, [], true, length, count_by, filter, IfOk, OnOk};
-ghost use Rattle.fd_program.specs.Homes.{first_target as first_target_of};
-ghost use Rattle.fd_program.specs.Uses.{is_index as is_index_role};
-ghost use Rattle.chaos_phases.specs.LoopLetters.{asks_places, is_for as is_for_by, is_looked_at as is_looked_at_by, is_map, layout_for};
-ghost use Rattle.chaos_phases.specs.declared.loop_phase.Asking.TheVariants as round;
-ghost use Rattle.chaos_asking.specs.Asks.{IsAsked};
-ghost use Rattle.chaos_reach.specs.Accepted.{IsAccepted};
+ghost use Rattle.plan_loop.specs.LoopLetters.{asks_places, is_for as is_for_by, is_looked_at as is_looked_at_by};
+ghost use Rattle.fd_program.specs.Met.{is_map, layout_for};
+ghost use Rattle.plan_loop.specs.declared.loop_phase.Asking.TheVariants as round;
+ghost use Rattle.inspect_places.specs.Asks.{IsAsked};
+ghost use Rattle.inspect_uses.specs.Accepted.{IsAccepted};
 ghost use Rattle.chaos_inspect.specs.Walking.{is_asked as is_asked_by, is_reached as is_reached_by, uses_through};
 
 use crate::votes::behind;
-use chaos_asking::Asked;
 use chaos_dist::StepForm;
-use chaos_phases::Asking;
-use chaos_reach::{given, is_met, layout_of, uses};
-use fd_program::{CheckedBody, HomeRule, LoopFacts, Use, Uses};
+use fd_program::{HomeRule, LoopFacts, Use, Uses, first_target, is_met};
 use fd_words::{Memory, Role};
+use inspect_places::Asked;
+use inspect_uses::{given, layout_of, uses};
+use plan_loop::Asking;
 use std::alloc::Global;
-
-/// The reference number of the first statement's target.
-fn first_target(body: &[CheckedBody]) -> u32
-    ensures { result ≡ first_target_of body.now }
-{
-    match body.first() {
-        Some(CheckedBody::Assign { target, value: _ }) => *target,
-        Some(
-            CheckedBody::Reduce {
-                operator: _,
-                target,
-                value: _,
-            },
-        ) => *target,
-        None => 0,
-    }
-}
 
 /// Whether the rule looks at the reference with this number.
 fn is_looked_at(facts: &LoopFacts, number: u32) -> bool
@@ -44,24 +26,14 @@ fn is_looked_at(facts: &LoopFacts, number: u32) -> bool
     }
 }
 
-fn is_index(role: Role) -> bool
-    ensures { result ≡ is_index_role role }
-{
-    match role {
-        Role::Index => true,
-        Role::Read => false,
-        Role::Target => false,
-    }
-}
-
 /// Whether an asking is for the reference with this number and role.
 fn is_for(facts: &LoopFacts, asking: Asking, number: u32, role: Role) -> bool
     ensures { result ≡ is_for_by facts.now asking number role }
 {
     match asking {
-        Asking::Indexes => is_index(role),
+        Asking::Indexes => role.is_index(),
         Asking::Homes => is_looked_at(facts, number),
-        Asking::References => !is_index(role),
+        Asking::References => !role.is_index(),
     }
 }
 
@@ -172,7 +144,8 @@ pub fn asked(
     values: &[i64],
 ) -> Result<Asked, Memory>
     requires { IsAccepted facts.now }
-    ensures { IfOk result (λ asked. IsAsked facts.now (filter (is_asked_by facts.now asking) (uses_through facts.now iterations.now values.now)) asked) }
+    ensures { IfOk result (λ asked. IsAsked facts.now
+        (filter (is_asked_by facts.now asking) (uses_through facts.now iterations.now values.now)) asked) }
 {
     let uses = wanted(alloc, facts, asking, iterations, values)?;
     Asked::new(alloc, facts, uses.as_slice())
@@ -186,7 +159,8 @@ pub fn first_asked(
     iterations: &[i64],
 ) -> Result<Asked, Memory>
     requires { IsAccepted facts.now }
-    ensures { IfOk result (λ asked. seeks ≡ true → IsAsked facts.now (filter (is_asked_by facts.now round.Indexes) (uses_through facts.now iterations.now [])) asked) }
+    ensures { IfOk result (λ asked. seeks ≡ true
+        → IsAsked facts.now (filter (is_asked_by facts.now round.Indexes) (uses_through facts.now iterations.now [])) asked) }
 {
     if seeks {
         asked(alloc, facts, Asking::Indexes, iterations, &[])

@@ -1,15 +1,16 @@
 //! Where the elements stand that references reach.
 ghost use Rattle.std.specs.Prelude.{◌≡◌, ◌≤◌, ◌∷◌, ◌++◌, [], true, false, count_by, drop, IfOk, OnOk};
 ghost use Rattle.fd_program.specs.Uses.{is_met as is_met_of};
-ghost use Rattle.chaos_phases.specs.declared.loop_phase.Asking.TheVariants as round;
-ghost use Rattle.chaos_reach.specs.Accepted.{IsAccepted};
-ghost use Rattle.chaos_inspect.specs.Walking.{is_asked as is_asked_by, place_told, spot_of, spots_one, spots_told, told_behind, uses_without};
+ghost use Rattle.plan_loop.specs.declared.loop_phase.Asking.TheVariants as round;
+ghost use Rattle.inspect_uses.specs.Accepted.{IsAccepted};
+ghost use Rattle.chaos_inspect.specs.Walking.{is_asked as is_asked_by, place_told, spot_of, spots_one, spots_told, told_behind};
+ghost use Rattle.chaos_inspect.specs.Walking.{uses_without};
 
 use crate::round::{asked_of, is_asked, is_reached};
-use chaos_phases::Asking;
-use chaos_reach::{place_by_formula, uses};
 use fd_program::{LoopFacts, Use};
 use fd_words::{Memory, Place};
+use inspect_uses::{place_by_formula, uses};
+use plan_loop::Asking;
 use sqlite_items::Items;
 use std::alloc::Global;
 

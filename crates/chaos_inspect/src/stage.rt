@@ -1,9 +1,9 @@
 ghost use Rattle.std.specs.Prelude.{◌≡◌, IfOk};
 
-use chaos_phases::Asking;
-use chaos_prepare::Entering;
 use chaos_sched::Prepared;
 use fd_words::{Memory, NumberLists, Offence, Places};
+use inspect_enter::Entering;
+use plan_loop::Asking;
 use std::alloc::Global;
 
 /// How far an inspection has come, and what it has in hand there.

@@ -3,39 +3,11 @@ ghost use Rattle.fd_program.specs.Loops.{first_of, offence_at as offence_by};
 ghost use Rattle.chaos_vote.specs.Votes.{least_of, read_vote};
 ghost use Rattle.chaos_inspect.specs.Walking.{uses_through};
 
-use chaos_reach::{given, is_within, uses};
 use chaos_vote::{least, offence_of};
-use fd_program::{ArrayFacts, LoopFacts, Use};
+use fd_program::{LoopFacts, first_offence};
 use fd_words::{Memory, NumberLists, Numbers, Offence};
+use inspect_uses::{given, uses};
 use std::alloc::Global;
-
-/// The offence of a reference, if it is one.
-fn offence_at(arrays: &[ArrayFacts], used: &Use) -> Option<Offence>
-    ensures { result ≡ offence_by arrays.now used.now }
-{
-    if used.defined && !is_within(arrays, used.array, used.subscript) {
-        Some(Offence {
-            iteration: used.iteration,
-            reference: used.number,
-            subscript: used.subscript,
-        })
-    } else {
-        None
-    }
-}
-
-/// The first offence of these references.
-fn first_offence(arrays: &[ArrayFacts], uses: &[Use]) -> Option<Offence>
-    ensures { result ≡ first_of (filter_map (offence_by arrays.now) uses.now) }
-{
-    for used in uses {
-        match offence_at(arrays, used) {
-            Some(offence) => return Some(offence),
-            None => {}
-        }
-    }
-    None
-}
 
 /// The values behind so many.
 pub fn behind(values: &[i64], count: usize) -> &[i64]
@@ -56,7 +28,8 @@ pub fn own_vote(
     values: &[i64],
 ) -> Result<Option<Offence>, Memory>
     requires { length facts.now.site.references ≤ 64 }
-    ensures { IfOk result (λ o. o ≡ first_of (filter_map (offence_by facts.now.arrays) (uses_through facts.now iterations.now values.now))) }
+    ensures { IfOk result (λ o. o ≡ first_of (filter_map (offence_by facts.now.arrays)
+        (uses_through facts.now iterations.now values.now))) }
 {
     let arrays = facts.arrays.as_slice();
     let mut rest = values;

@@ -20,12 +20,24 @@ pub enum Kind {
     Iterations,
     /// 0 for a read or 1 for a target, array, element and local address; ascending [4].
     ScheduleAsk,
+    /// Reference, element and iteration; ascending [3].
+    Claims,
+    /// Nothing, or first and second iteration, reference and element [4].
+    ClashVote,
     /// Array, element and value; ascending [3].
     Gather,
     /// Array, element and value; ascending [3].
     Scatter,
     /// Element of a decomposition and the values of its arrays there; ascending [1, and 1 for each array].
     Remap,
-    /// Element and value; ascending [2].
+    /// Element, or bin, and value; ascending [2].
     Print,
+    /// For each region its least and greatest coordinate on each axis [2 for each axis].
+    Spread,
+    /// For each region, how many of the sender's keys there are below the candidate [1].
+    Rank,
+    /// How many particles follow [1].
+    Sizes,
+    /// Bin and value, in any order [2].
+    Append,
 }

@@ -20,7 +20,8 @@ bare_entered (Some b) place stamp = Some (b.0, with_stamps b.1 (mask_of stamp))
 -- what element q has once these items are entered, those of node me left out
 abbrev pub after_items : ℕ → ℕ → List Entered → Option (Place × ℕ) → Option (Place × ℕ)
 after_items me q [] b = b
-after_items me q (i ∷ is) b = after_items me q is (if not (nat_eq i.place.owner me) && nat_eq q i.element then bare_entered b i.place i.stamp else b)
+after_items me q (i ∷ is) b = after_items me q is (if not (nat_eq i.place.owner me) && nat_eq q i.element
+    then bare_entered b i.place i.stamp else b)
 
 -- the local address of a place on this node, else the slot of the element's entry
 abbrev pub IsLocal : ℕ → Entries → Entered → LocalRef → Type 0

@@ -23,7 +23,8 @@ pub fn localise(
     ensures seen { OnOk result ((q : ℕ) → bare (fin.get table.new.held q) ≡ after_items me q list.now (bare (fin.get table.old.held q))) }
     ensures local { IfOk result (λ refs. AllZip (IsLocal me table.new.held) list.now refs) }
     ensures keeps { KeepsSlots table.old.held table.new.held }
-    ensures memory { OnErr result ((n : ℕ) × ((q : ℕ) → bare (fin.get table.new.held q) ≡ after_items me q (take n list.now) (bare (fin.get table.old.held q)))) }
+    ensures memory { OnErr result ((n : ℕ)
+        × ((q : ℕ) → bare (fin.get table.new.held q) ≡ after_items me q (take n list.now) (bare (fin.get table.old.held q)))) }
 {
     all(alloc, list.as_slice(), table, me)
 }
@@ -39,7 +40,8 @@ fn all(
     ensures seen { OnOk result ((q : ℕ) → bare (fin.get table.new.held q) ≡ after_items me q list.now (bare (fin.get table.old.held q))) }
     ensures local { IfOk result (λ refs. AllZip (IsLocal me table.new.held) list.now refs) }
     ensures keeps { KeepsSlots table.old.held table.new.held }
-    ensures memory { OnErr result ((n : ℕ) × ((q : ℕ) → bare (fin.get table.new.held q) ≡ after_items me q (take n list.now) (bare (fin.get table.old.held q)))) }
+    ensures memory { OnErr result ((n : ℕ)
+        × ((q : ℕ) → bare (fin.get table.new.held q) ≡ after_items me q (take n list.now) (bare (fin.get table.old.held q)))) }
 {
     let mut refs = LocalRefs::new(alloc);
     for item in list {
@@ -52,7 +54,8 @@ fn all(
 fn one(item: Entered, table: &mut StampTable, me: u32) -> Result<LocalRef, Memory>
     requires stamp { item.stamp < 128 }
     requires few { fin.len table.old.held < 4294967295 }
-    ensures seen { OnOk result ((q : ℕ) → bare (fin.get table.new.held q) ≡ after_items me q (item ∷ []) (bare (fin.get table.old.held q))) }
+    ensures seen { OnOk result ((q : ℕ) → bare (fin.get table.new.held q) ≡ after_items me q (item ∷ [])
+        (bare (fin.get table.old.held q))) }
     ensures local { IfOk result (IsLocal me table.new.held item) }
     ensures keeps { KeepsSlots table.old.held table.new.held }
     ensures few { fin.len table.new.held ≤ fin.len table.old.held + 1 }

@@ -3,7 +3,7 @@ use Rattle.std.specs.Prelude.{ℕ, ℤ, List, filter, not}
 use Rattle.std.specs.Int.{w64, cast_signed}
 use Rattle.chaos_hash.specs.declared.held.Held.{Held}
 use Rattle.chaos_hash.specs.Stamps.{chosen_list, meets}
-use Rattle.chaos_order.specs.Dealt.{dealt}
+use Rattle.list_laws.specs.Dealt.{dealt}
 
 -- an element as a signed number: itself where it is below 2^63
 abbrev pub number_of : ℕ → ℤ

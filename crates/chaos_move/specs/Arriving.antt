@@ -13,15 +13,18 @@ ghost_after pieces array slot value i = if (i.array == array) && (i.slot == slot
 -- an element's value after an item: assigned or combined, where the item is the element's
 abbrev pub element_after : List (Option Combine) → List (List ℤ) → ℕ → ℕ → ℤ → Item → ℤ
 element_after operators pending array local value i =
-    if (i.array == array) && (i.local == local) then changed (operator_at operators i.array) value (value_at pending i.array i.slot) else value
+    if (i.array == array) && (i.local == local) then changed (operator_at operators i.array) value (value_at pending i.array i.slot)
+    else value
 
 -- The owner packs its pieces, and the other node unpacks into its ghosts.
 abbrev pub GathersArrive : Type 0
 GathersArrive = (pieces ghosts : List (List ℤ)) (items : List Item) (array slot : ℕ) → slot < length (list_at ghosts array)
-    → value_at (unpacked (packed pieces (map on_owner items)) items ghosts) array slot ≡ fold (ghost_after pieces array slot) (value_at ghosts array slot) items
+    → value_at (unpacked (packed pieces (map on_owner items)) items ghosts) array slot ≡ fold (ghost_after pieces array slot)
+    (value_at ghosts array slot) items
 
 -- The other node packs what it has to give, and the owner applies it to its pieces.
 abbrev pub ScattersArrive : Type 0
-ScattersArrive = (operators : List (Option Combine)) (pending pieces : List (List ℤ)) (items : List Item) (array local : ℕ) → local < length (list_at pieces array)
+ScattersArrive = (operators : List (Option Combine)) (pending pieces : List (List ℤ)) (items : List Item) (array local : ℕ)
+    → local < length (list_at pieces array)
     → value_at (applied operators (packed_combined pending items) (map on_owner items) pieces) array local
     ≡ fold (element_after operators pending array local) (value_at pieces array local) items

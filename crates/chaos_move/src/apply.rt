@@ -3,7 +3,6 @@ ghost use Rattle.chaos_move.specs.Moves.{combined_into, applied};
 
 use crate::Operators;
 use crate::operators::{change, operator_of};
-use crate::place::value_of;
 use crate::rows::value_for;
 use chaos_sched::{Item, Items};
 use fd_words::{NumberLists, Numbers};
@@ -31,8 +30,8 @@ fn combine(item: Item, value: Option<i64>, operators: &Operators, pieces: &mut N
     ensures { pieces.new ≡ combined_into operators.now item value pieces.old }
 {
     if let Some(value) = value {
-        let old = value_of(pieces, item.array, item.local);
-        let new = change(operator_of(operators, item.array), old, value);
+        let old = pieces.value_at(u64::from(item.array), item.local);
+        let new = change(operator_of(operators, u64::from(item.array)), old, value);
         pieces.set(u64::from(item.array), item.local, new);
     }
 }

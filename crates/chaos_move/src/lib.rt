@@ -7,11 +7,10 @@ mod incoming;
 mod laws;
 mod operators;
 mod outgoing;
-mod place;
 mod rows;
 
 pub use apply::apply_combined;
 pub use incoming::unpack;
 pub use laws::move_laws;
-pub use operators::Operators;
+pub use operators::{Operators, change, operator_of};
 pub use outgoing::{pack, pack_combined};

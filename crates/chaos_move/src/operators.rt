@@ -7,7 +7,8 @@ use sqlite_items::Items;
 /// For each array the operator that reduces into it, none where it isn't reduced.
 pub type Operators = Items<Option<Combine>>;
 
-pub fn operator_of(operators: &Operators, array: u32) -> Option<Combine>
+/// The operator that reduces into an array, none where it isn't reduced.
+pub fn operator_of(operators: &Operators, array: u64) -> Option<Combine>
     ensures { result ≡ operator_at operators.now array }
 {
     match operators.get(array as usize) {

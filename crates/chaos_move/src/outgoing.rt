@@ -1,7 +1,6 @@
 ghost use Rattle.std.specs.Prelude.{◌≡◌, ◌<◌, ◌^◌, ◌++◌, All, OnOk, IfOk};
 ghost use Rattle.chaos_move.specs.Moves.{triple, packed, packed_combined};
 
-use crate::place::value_of;
 use chaos_sched::{Item, Items};
 use fd_words::{Memory, NumberLists, Numbers};
 use std::alloc::Global;
@@ -18,7 +17,7 @@ pub fn pack(alloc: Global, items: &Items, pieces: &NumberLists) -> Result<Number
         add(
             &mut numbers,
             *item,
-            value_of(pieces, item.array, item.local),
+            pieces.value_at(u64::from(item.array), item.local),
         )?;
     }
     Ok(numbers)
@@ -36,7 +35,7 @@ pub fn pack_combined(alloc: Global, items: &Items, pending: &NumberLists) -> Res
         add(
             &mut numbers,
             *item,
-            value_of(pending, item.array, u64::from(item.slot)),
+            pending.value_at(u64::from(item.array), u64::from(item.slot)),
         )?;
     }
     Ok(numbers)

@@ -1,5 +1,6 @@
 -- What a node asks of the new pages, what it is asked, and the places that are answered.
-use Rattle.std.proofs.Common.{◌≡◌, refl, ℕ, zero, suc, ◌+◌, ◌-◌, ◌*◌, ◌/◌, ◌<◌, ◌≤◌, ◌==◌, ◌&&◌, Bool, true, false, List, [], ◌∷◌, length, take, map, filter, get_or, ap, sym, subst, ◌∙◌, arith, add-zero}
+use Rattle.std.proofs.Common.{◌≡◌, refl, ℕ, zero, suc, ◌+◌, ◌-◌, ◌*◌, ◌/◌, ◌<◌, ◌≤◌, ◌==◌, ◌&&◌, Bool, true, false, List, [], ◌∷◌, length}
+use Rattle.std.proofs.Common.{take, map, filter, get_or, ap, sym, subst, ◌∙◌, arith, add-zero}
 use Rattle.std.specs.Prelude.{ℤ, pos, negsuc, All, Option, Some, None, IsSomeAnd, slice_get, unwrap_or, nat_le, if◌then◌else◌}
 use Rattle.std.specs.Int.{w64}
 use Rattle.std.specs.List.{flat_map, range_with_len}
@@ -10,6 +11,7 @@ use Rattle.std.proofs.lemmas.List.Folds.{flat_map-map}
 use Rattle.std.proofs.lemmas.List.Sums.{count_by-le-length}
 use Rattle.std.proofs.lemmas.Nat.{div_below, div-mul-add}
 use Rattle.std.proofs.lemmas.Option.{unwrap_or-slice_get}
+use Rattle.list_laws.specs.Tests.{same_when, left_true, right_true}
 use Rattle.fd_words.specs.Lists.{list_at}
 use Rattle.chaos_dist.specs.Counting.{below, up_to}
 use Rattle.chaos_dist.specs.Layout.{divided_up}
@@ -23,32 +25,19 @@ use Rattle.chaos_table.specs.Pages.{look_in}
 use Rattle.chaos_table.specs.declared.pages.Pages.{Pages}
 use Rattle.chaos_remap.proofs.Composition.{is_kth}
 use Rattle.chaos_remap.proofs.Families.{by_node, filter-both, map-same, map-places, get-pieces, length-pieces}
-use Rattle.chaos_run.specs.Held.{IsPageOf, place_in}
-use Rattle.chaos_run.specs.Phases.{moving_of}
-use Rattle.chaos_run.specs.declared.stage.Stage.TheVariants as stage
+use Rattle.plan_run.specs.Held.{IsPageOf, place_in}
+use Rattle.plan_run.specs.Phases.{moving_of}
+use Rattle.plan_run.specs.declared.stage.Stage.TheVariants as stage
 use Rattle.chaos_moving.specs.declared.share.Share.{Share}
 use Rattle.chaos_moving.specs.Asks.{asks_named, asked_in, answers_by}
 use Rattle.chaos_moving.specs.IsMoving.{HasShare, sent_in, taken_in}
 use Rattle.chaos_moving.proofs.Lists.{map_twice, map_below, filter_mapped, flat_map_each}
 
-same_when : (k p : ℕ) → (k == p) ≡ true → k ≡ p
-same_when k p e = grind (arith, nat_tests)
-
-left_true : (a b : Bool) → (a && b) ≡ true → a ≡ true
-left_true true b e = refl
-left_true false b e = e
-
-right_true : (a b : Bool) → (a && b) ≡ true → b ≡ true
-right_true true b e = e
-right_true false b e = absurd (no e)
-  where
-    no : false ≡ true → ⊥
-    no e = cc
-
 -- ---- asks
 
 -- the elements on a node that are asked of a page
-asked_of : (nodes : ℕ) (old : List ℕ) (p q : ℕ) → filter (λ v. page_for (length old) nodes v == q) (map pos (elements_on old p)) ≡ map pos (moving_of nodes old p q)
+asked_of : (nodes : ℕ) (old : List ℕ) (p q : ℕ) → filter (λ v. page_for (length old) nodes v == q) (map pos (elements_on old p))
+    ≡ map pos (moving_of nodes old p q)
 asked_of nodes old p q =
     filter_mapped (λ v. page_for (length old) nodes v == q) pos (elements_on old p)
     ∙ ap (map pos) (filter-both (λ g. owner_in old g == p) (λ g. page_of (length old) nodes g == q) (up_to (length old)))
@@ -57,14 +46,17 @@ asked_of nodes old p q =
 abbrev ask_row : ℕ → ℕ → List ℤ
 ask_row d g = pos d ∷ pos g ∷ []
 
-named_of : (nodes d : ℕ) (old : List ℕ) (p q : ℕ) → asks_named d (filter (λ v. page_for (length old) nodes v == q) (map pos (elements_on old p))) ≡ flat_map (ask_row d) (moving_of nodes old p q)
+named_of : (nodes d : ℕ) (old : List ℕ) (p q : ℕ)
+    → asks_named d (filter (λ v. page_for (length old) nodes v == q) (map pos (elements_on old p))) ≡ flat_map (ask_row d)
+    (moving_of nodes old p q)
 named_of nodes d old p q = ap (asks_named d) (asked_of nodes old p q) ∙ flat_map-map (λ v. pos d ∷ v ∷ []) pos (moving_of nodes old p q)
 
 read_back : (d : ℕ) (gs : List ℕ) → asked_in (flat_map (ask_row d) gs) ≡ map pos gs
 read_back d gs =
     let numbers = flat_map (ask_row d) gs in
     let count : length numbers / 2 ≡ length gs =
-    ap (λ n. n / 2) (length-pieces (ask_row d) 2 (λ g. refl) gs ∙ sym (add-zero (length gs * 2))) ∙ div-mul-add (length gs) 2 0 (omega arith) in
+    ap (λ n. n / 2) (length-pieces (ask_row d) 2 (λ g. refl) gs ∙ sym (add-zero (length gs * 2)))
+    ∙ div-mul-add (length gs) 2 0 (omega arith) in
     ap (λ n. map (λ k. get_or numbers (2 * k + 1) (pos 0)) (below n)) count
     ∙ map-places (λ k. get_or numbers (2 * k + 1) (pos 0)) pos 0 gs
     (λ k g e.
@@ -95,7 +87,8 @@ answered_of page nodes old new p q short tells =
     ∙ flat_map_each (λ g. numbers_of (place_named page (pos g))) (place_row new) (moving_of nodes old p q)
     (λ k g e.
     let h = is_kth (λ g. (owner_in old g == p) && (page_of (length old) nodes g == q)) (length old) k g e in
-    let here : page_of (length old) nodes g ≡ q = same_when (page_of (length old) nodes g) q (right_true (owner_in old g == p) (page_of (length old) nodes g == q) h.passes) in
+    let here : page_of (length old) nodes g ≡ q = same_when (page_of (length old) nodes g) q
+    (right_true (owner_in old g == p) (page_of (length old) nodes g == q) h.passes) in
     ap (λ o. numbers_of (unwrap_or o nowhere)) (tells g h.from_one h.within here) ∙ numbers_are new g short)
 
 -- ---- a page with all elements
@@ -106,7 +99,8 @@ whole new = record { first = 1; places = map (place_in new) (up_to (length new))
 get_range : {B : Type 0} (f : ℕ → B) (a k n : ℕ) → k < n → slice_get (map f (range_with_len a n)) k ≡ Some (f (a + k))
 get_range f a k zero h = absurd (omega arith)
 get_range f a zero (suc n) h = ap (λ x. Some (f x)) (sym (add-zero a))
-get_range f a (suc k) (suc n) h = get_range f (a + 1) k n (omega arith) ∙ (let more : a + 1 + k ≡ a + suc k = omega arith in ap (λ x. Some (f x)) more)
+get_range f a (suc k) (suc n) h = get_range f (a + 1) k n (omega arith)
+    ∙ (let more : a + 1 + k ≡ a + suc k = omega arith in ap (λ x. Some (f x)) more)
 
 look_whole : (new : List ℕ) (g : ℕ) → 1 ≤ g → g ≤ length new → look_in (whole new) g ≡ Some (place_in new g)
 look_whole new g low high =
@@ -116,7 +110,8 @@ look_whole new g low high =
     ∙ get_range (place_in new) 1 (g - 1) (length new) (omega arith)
     ∙ ap (λ n. Some (place_in new n)) back
 
-owner_small : (nodes : ℕ) (new : List ℕ) (g : ℕ) → nodes ≤ 16 → All (λ o. o < nodes) new → 1 ≤ g → g ≤ length new → owner_in new g < 4294967296
+owner_small : (nodes : ℕ) (new : List ℕ) (g : ℕ) → nodes ≤ 16 → All (λ o. o < nodes) new → 1 ≤ g → g ≤ length new
+    → owner_in new g < 4294967296
 owner_small nodes new g few owned low high =
     let there : g - 1 < length new = omega arith in
     let node : owner_in new g < nodes = subst (λ o. o < nodes) (sym (unwrap_or-slice_get new (g - 1) 0)) (owned (g - 1) 0 there) in
@@ -131,7 +126,8 @@ page_low extent nodes g some from_one within =
     let low : g - 1 < nodes * w = omega (arith, enough, from_one, within) in
     div_below (g - 1) w nodes width low
 
-module _ (nodes : ℕ) (new : List ℕ) (some : 1 ≤ nodes) (few : nodes ≤ 16) (short : length new ≤ 1048576) (owned : All (λ o. o < nodes) new) where
+module _ (nodes : ℕ) (new : List ℕ) (some : 1 ≤ nodes) (few : nodes ≤ 16) (short : length new ≤ 1048576)
+    (owned : All (λ o. o < nodes) new) where
   each_low : (v : ℤ) → IsElement (length new) v → page_for (length new) nodes v < nodes
   each_low (pos g) e = page_low (length new) nodes g some (omega (arith, ints, e.0)) (omega (arith, ints, e.1))
   each_low (negsuc n) e = absurd (omega (arith, ints, e.0))
@@ -140,15 +136,20 @@ module _ (nodes : ℕ) (new : List ℕ) (some : 1 ≤ nodes) (few : nodes ≤ 16
   each_sent (pos g) e =
       let low : 1 ≤ g = omega (arith, ints, e.0) in
       let high : g ≤ length new = omega (arith, ints, e.1) in
-      subst (λ o. IsSent (unwrap_or o nowhere)) (sym (look_whole new g low high)) (owner_small nodes new g few owned low high, local_small new g short)
+      subst (λ o. IsSent (unwrap_or o nowhere)) (sym (look_whole new g low high)) (
+        owner_small nodes new g few owned low high,
+        local_small new g short,
+      )
   each_sent (negsuc n) e = absurd (omega (arith, ints, e.0))
 
-  pub places_joined : (old : List ℕ) (p : ℕ) (taken : List (List ℤ)) → length old ≡ length new → All (IsElement (length new)) (map pos (elements_on old p))
+  pub places_joined : (old : List ℕ) (p : ℕ) (taken : List (List ℤ)) → length old ≡ length new
+      → All (IsElement (length new)) (map pos (elements_on old p))
       → taken ≡ map (λ q. flat_map (place_row new) (moving_of nodes old p q)) (below nodes)
       → joined (length new) nodes (map pos (elements_on old p)) taken ≡ map (place_in new) (elements_on old p)
   places_joined old p taken size elements is =
       let wanted = map pos (elements_on old p) in
-      let answers : (q : ℕ) → q < nodes → flat_map (place_row new) (moving_of nodes old p q) ≡ answers_to (whole new) (list_at (asks_for (length new) nodes wanted) q) =
+      let answers : (q : ℕ) → q < nodes → flat_map (place_row new) (moving_of nodes old p q) ≡ answers_to (whole new)
+      (list_at (asks_for (length new) nodes wanted) q) =
       λ q there.
       sym (ap (answers_to (whole new))
       (by_node (λ q. filter (λ v. page_for (length new) nodes v == q) wanted) q nodes there
@@ -156,8 +157,10 @@ module _ (nodes : ℕ) (new : List ℕ) (some : 1 ≤ nodes) (few : nodes ≤ 16
       ∙ asked_of nodes old p q)
       ∙ answered_of (whole new) nodes old new p q short (λ g low high _. look_whole new g low (subst (λ n. g ≤ n) size high))) in
       ap (joined (length new) nodes wanted)
-      (is ∙ map_below (λ q. flat_map (place_row new) (moving_of nodes old p q)) (λ q. answers_to (whole new) (list_at (asks_for (length new) nodes wanted) q)) nodes answers)
-      ∙ asking-gives_places (length new) nodes (λ _. whole new) wanted (λ i d h. each_low (get_or wanted i d) (elements i d h)) (λ i d h. each_sent (get_or wanted i d) (elements i d h))
+      (is ∙ map_below (λ q. flat_map (place_row new) (moving_of nodes old p q))
+      (λ q. answers_to (whole new) (list_at (asks_for (length new) nodes wanted) q)) nodes answers)
+      ∙ asking-gives_places (length new) nodes (λ _. whole new) wanted (λ i d h. each_low (get_or wanted i d) (elements i d h))
+      (λ i d h. each_sent (get_or wanted i d) (elements i d h))
       ∙ map_twice (place_named (whole new)) pos (elements_on old p)
       ∙ map-same (λ g. place_named (whole new) (pos g)) (place_in new) (elements_on old p)
       (λ k g e.
@@ -166,28 +169,33 @@ module _ (nodes : ℕ) (new : List ℕ) (some : 1 ≤ nodes) (few : nodes ≤ 16
 
 -- ---- one node
 
-module _ (share : Share) (s : Scene) (owners : List (List ℕ)) (store : List (List ℤ)) (new : List ℕ) (has : HasShare share s owners store) (size : length new ≡ share.extent) where
+module _ (share : Share) (s : Scene) (owners : List (List ℕ)) (store : List (List ℤ)) (new : List ℕ) (has : HasShare share s owners store)
+    (size : length new ≡ share.extent) where
   abbrev d : ℕ
   d = share.decomposition
 
   abbrev old : List ℕ
   old = list_at owners d
 
-  pub asks_sent : map (asks_named d) (asks_for share.extent share.nodes share.elements) ≡ sent_in s owners store d new stage.MovingAsk share.me
+  pub asks_sent : map (asks_named d) (asks_for share.extent share.nodes share.elements) ≡ sent_in s owners store d new stage.MovingAsk
+      share.me
   asks_sent =
       ap (λ n. map (asks_named d) (asks_for n share.nodes share.elements)) (sym has.size)
       ∙ ap (λ n. map (asks_named d) (asks_for (length old) n share.elements)) has.count
       ∙ ap (λ l. map (asks_named d) (asks_for (length old) s.nodes l)) has.mine
-      ∙ map_twice (asks_named d) (λ q. filter (λ v. page_for (length old) s.nodes v == q) (map pos (elements_on old share.me))) (below s.nodes)
+      ∙ map_twice (asks_named d) (λ q. filter (λ v. page_for (length old) s.nodes v == q) (map pos (elements_on old share.me)))
+      (below s.nodes)
       ∙ ap (λ (f : ℕ → List ℤ). map f (below s.nodes)) (λ i q. named_of s.nodes d old share.me q i)
 
-  pub asks_read : (taken : List (List ℤ)) → taken ≡ taken_in s owners store d new stage.MovingAsk share.me → map asked_in taken ≡ map (λ q. map pos (moving_of s.nodes old q share.me)) (below s.nodes)
+  pub asks_read : (taken : List (List ℤ)) → taken ≡ taken_in s owners store d new stage.MovingAsk share.me
+      → map asked_in taken ≡ map (λ q. map pos (moving_of s.nodes old q share.me)) (below s.nodes)
   asks_read taken is =
       ap (map asked_in) is
       ∙ map_twice asked_in (λ q. flat_map (ask_row d) (moving_of s.nodes old q share.me)) (below s.nodes)
       ∙ ap (λ (f : ℕ → List ℤ). map f (below s.nodes)) (λ i q. read_back d (moving_of s.nodes old q share.me) i)
 
-  pub answers_sent : (page : Option Pages) (asked : List (List ℤ)) → IsSomeAnd page (IsPageOf s.nodes share.me new) → asked ≡ map (λ q. map pos (moving_of s.nodes old q share.me)) (below s.nodes)
+  pub answers_sent : (page : Option Pages) (asked : List (List ℤ)) → IsSomeAnd page (IsPageOf s.nodes share.me new)
+      → asked ≡ map (λ q. map pos (moving_of s.nodes old q share.me)) (below s.nodes)
       → answers_by page asked ≡ sent_in s owners store d new stage.MovingAnswer share.me
   answers_sent None asked h is = absurd h
   answers_sent (Some page) asked h is =
@@ -199,13 +207,16 @@ module _ (share : Share) (s : Scene) (owners : List (List ℕ)) (store : List (L
       (λ i q. answered_of page s.nodes old new q share.me short
       (λ g low high here. h g low (subst (λ n. g ≤ n) same high) (ap (λ n. page_of n s.nodes g) (sym same) ∙ here)) i)
 
-  pub answers_joined : (taken : List (List ℤ)) → All (λ o. o < s.nodes) new → taken ≡ taken_in s owners store d new stage.MovingAnswer share.me
+  pub answers_joined : (taken : List (List ℤ)) → All (λ o. o < s.nodes) new → taken ≡ taken_in s owners store d new stage.MovingAnswer
+      share.me
       → joined share.extent share.nodes share.elements taken ≡ map (place_in new) (elements_on old share.me)
   answers_joined taken owned is =
       let short : length new ≤ 1048576 = subst (λ n. n ≤ 1048576) (sym size) share.few_elements in
       let within : All (IsElement (length new)) (map pos (elements_on old share.me)) =
-      subst (λ (l : List ℤ). All (IsElement (length new)) l) has.mine (subst (λ n. All (IsElement n) share.elements) (sym size) share.within) in
+      subst (λ (l : List ℤ). All (IsElement (length new)) l) has.mine (subst (λ n. All (IsElement n) share.elements)
+      (sym size) share.within) in
       ap (λ n. joined n share.nodes share.elements taken) (sym size)
       ∙ ap (λ n. joined (length new) n share.elements taken) has.count
       ∙ ap (λ l. joined (length new) s.nodes l taken) has.mine
-      ∙ places_joined s.nodes new (subst (λ n. 1 ≤ n) has.count share.some_nodes) (subst (λ n. n ≤ 16) has.count share.few_nodes) short owned old share.me taken (has.size ∙ sym size) within is
+      ∙ places_joined s.nodes new (subst (λ n. 1 ≤ n) has.count share.some_nodes) (subst (λ n. n ≤ 16) has.count share.few_nodes) short
+      owned old share.me taken (has.size ∙ sym size) within is

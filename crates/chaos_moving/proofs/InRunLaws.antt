@@ -1,5 +1,6 @@
 -- A move in a run.
-use Rattle.std.proofs.Common.{◌≡◌, refl, ℕ, zero, suc, ◌+◌, ◌<◌, ◌≤◌, ◌==◌, true, List, [], ◌∷◌, Some, None, unwrap_or, ap, sym, subst, ◌∙◌, arith, add-zero}
+use Rattle.std.proofs.Common.{◌≡◌, refl, ℕ, zero, suc, ◌+◌, ◌<◌, ◌≤◌, ◌==◌, true, List, [], ◌∷◌, Some, None, unwrap_or, ap, sym, subst, ◌∙◌}
+use Rattle.std.proofs.Common.{arith, add-zero}
 use Rattle.std.specs.Prelude.{ℤ, pos}
 use Rattle.std.specs.List.{range_with_len}
 use Rattle.std.proofs.Common.{Bool, cond, false, filter, length, map}
@@ -32,7 +33,8 @@ no_item x e = cc
 inside : {A : Type 0} (x y : A) → Some x ≡ Some y → x ≡ y
 inside x y e = cc
 
-enumerate_get : {A : Type 0} (n : ℕ) (xs : List A) (k : ℕ) (x : A) → slice_get xs k ≡ Some x → slice_get (enumerate_from n xs) k ≡ Some (n + k, x)
+enumerate_get : {A : Type 0} (n : ℕ) (xs : List A) (k : ℕ) (x : A) → slice_get xs k ≡ Some x → slice_get (enumerate_from n xs) k
+    ≡ Some (n + k, x)
 enumerate_get n [] k x e = no_item x e
 enumerate_get {A} n (y ∷ xs) zero x e =
     ap (λ (z : A). Some (n, z)) (inside y x e) ∙ ap (λ m. Some (m, x)) (sym (add-zero n))
@@ -48,7 +50,8 @@ owners_are_by_form s past d form l e =
     let step = Distribute d form ∷ past in
     let by : ℕ × LayoutName → List ℕ = λ pair. owners_by s pair.1.extent (form_set step pair.0) in
     let at : 0 + d ≡ d = omega arith in
-    ap (λ o. unwrap_or o []) (slice_get-map by (enumerate_from 0 s.checked.layouts) d ∙ ap (option_map by) (enumerate_get 0 s.checked.layouts d l e))
+    ap (λ o. unwrap_or o []) (slice_get-map by (enumerate_from 0 s.checked.layouts) d
+    ∙ ap (option_map by) (enumerate_get 0 s.checked.layouts d l e))
     ∙ ap (λ n. owners_by s l.extent (form_set step n)) at
     ∙ ap (λ b. owners_by s l.extent (if b then (form, past) else form_set past d)) (same_number d)
 
@@ -62,15 +65,18 @@ nothing_owned nodes k d h = absurd (omega (arith, h))
 pub owners_are_nodes : OwnersAreNodes
 owners_are_nodes s past d some =
     let by : ℕ × LayoutName → List ℕ = λ pair. owners_by s pair.1.extent (form_set past pair.0) in
-    subst (λ (o : Option (List ℕ)). All (λ n. n < s.nodes) (unwrap_or o [])) (sym (slice_get-map by (enumerate_from 0 s.checked.layouts) d)) (found (slice_get (enumerate_from 0 s.checked.layouts) d))
+    subst (λ (o : Option (List ℕ)). All (λ n. n < s.nodes) (unwrap_or o []))
+    (sym (slice_get-map by (enumerate_from 0 s.checked.layouts) d)) (found (slice_get (enumerate_from 0 s.checked.layouts) d))
   where
-    found : (o : Option (ℕ × LayoutName)) → All (λ n. n < s.nodes) (unwrap_or (option_map (λ (pair : ℕ × LayoutName). owners_by s pair.1.extent (form_set past pair.0)) o) [])
+    found : (o : Option (ℕ × LayoutName))
+        → All (λ n. n < s.nodes) (unwrap_or (option_map (λ (pair : ℕ × LayoutName). owners_by s pair.1.extent (form_set past pair.0)) o) [])
     found None = nothing_owned s.nodes
     found (Some pair) = owned_by s pair.1.extent (form_set past pair.0) some
 
 -- ---- what is held
 
-kept_same : {B : Type 0} (f g : ℕ → B) (t : ℕ → Bool) (a n : ℕ) → ((k : ℕ) → k < a + n → f k ≡ g k) → map f (filter t (range_with_len a n)) ≡ map g (filter t (range_with_len a n))
+kept_same : {B : Type 0} (f g : ℕ → B) (t : ℕ → Bool) (a n : ℕ) → ((k : ℕ) → k < a + n → f k ≡ g k)
+    → map f (filter t (range_with_len a n)) ≡ map g (filter t (range_with_len a n))
 kept_same f g t a zero same = refl
 kept_same f g t a (suc n) same =
     let rest = filter t (range_with_len (a + 1) n) in
@@ -80,7 +86,8 @@ kept_same f g t a (suc n) same =
       | false ↦ later
     ]
 
-mine_of : (p : ℕ) (o : Option (List ℕ)) → unwrap_or (option_map (λ (owners : List ℕ). map pos (elements_on owners p)) o) [] ≡ map pos (elements_on (unwrap_or o []) p)
+mine_of : (p : ℕ) (o : Option (List ℕ)) → unwrap_or (option_map (λ (owners : List ℕ). map pos (elements_on owners p)) o) []
+    ≡ map pos (elements_on (unwrap_or o []) p)
 mine_of p None = refl
 mine_of p (Some owners) = refl
 
@@ -89,9 +96,12 @@ shares_are_held s past p v h =
     let owners = owners_at s past in
     let arrays = s.checked.arrays in
     let one : (array : ℕ) → array < length arrays → list_at v.parts array ≡ part_of arrays owners (store_at s past) p array =
-    λ array less. ap (λ (l : List (List ℤ)). list_at l array) h.parts ∙ by_node (part_of arrays owners (store_at s past) p) array (length arrays) less in
+    λ array less. ap (λ (l : List (List ℤ)). list_at l array) h.parts ∙ by_node (part_of arrays owners (store_at s past) p) array
+    (length arrays) less in
     record {
-      mine = λ d. ap (λ (l : List (List ℤ)). list_at l d) h.elements ∙ ap (λ o. unwrap_or o []) (slice_get-map (λ (o : List ℕ). map pos (elements_on o p)) owners d) ∙ mine_of p (slice_get owners d);
+      mine = λ d. ap (λ (l : List (List ℤ)). list_at l d) h.elements
+          ∙ ap (λ o. unwrap_or o []) (slice_get-map (λ (o : List ℕ). map pos (elements_on o p)) owners d) ∙ mine_of p (slice_get owners d);
       part = one;
-      pieces = λ d. kept_same (λ array. list_at v.parts array) (part_of arrays owners (store_at s past) p) (λ array. decomposition_of arrays array == d) 0 (length arrays) (λ k less. one k (omega (arith, less)));
+      pieces = λ d. kept_same (λ array. list_at v.parts array) (part_of arrays owners (store_at s past) p)
+          (λ array. decomposition_of arrays array == d) 0 (length arrays) (λ k less. one k (omega (arith, less)));
     }

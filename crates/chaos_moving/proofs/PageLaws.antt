@@ -1,5 +1,6 @@
 -- The pairs that a node takes cover its page, and the page that it makes of them tells the new places.
-use Rattle.std.proofs.Common.{◌≡◌, refl, ℕ, ◌<◌, ◌≤◌, ◌==◌, ◌&&◌, Bool, true, false, List, [], ◌∷◌, ◌++◌, cond, length, map, filter, ap, sym, subst, ◌∙◌, arith}
+use Rattle.std.proofs.Common.{◌≡◌, refl, ℕ, ◌<◌, ◌≤◌, ◌==◌, ◌&&◌, Bool, true, false, List, [], ◌∷◌, ◌++◌, cond, length, map, filter, ap}
+use Rattle.std.proofs.Common.{sym, subst, ◌∙◌, arith}
 use Rattle.std.specs.Prelude.{ℤ, pos}
 use Rattle.std.specs.List.{flat_map}
 use Rattle.std.proofs.lemmas.Bool.Decides.{nat_tests}
@@ -13,9 +14,9 @@ use Rattle.chaos_table.specs.Pages.{is_element, pairs_in, all_pairs, counts_of, 
 use Rattle.chaos_table.specs.Laws.{CoversOnce, CountsBefore, IsCovered}
 use Rattle.chaos_table.proofs.OfLayout.{counts-of_layout, page-of_layout}
 use Rattle.chaos_remap.proofs.Families.{by_node, filter-both}
-use Rattle.chaos_run.specs.Held.{IsPageOf}
-use Rattle.chaos_run.specs.Phases.{map_rows}
-use Rattle.chaos_run.specs.declared.stage.Stage.TheVariants as stage
+use Rattle.plan_run.specs.Held.{IsPageOf}
+use Rattle.plan_run.specs.Phases.{map_rows}
+use Rattle.plan_run.specs.declared.stage.Stage.TheVariants as stage
 use Rattle.chaos_moving.specs.declared.share.Share.{Share}
 use Rattle.chaos_moving.specs.IsMoving.{HasShare, StandsOnNodes, sent_in, taken_in}
 use Rattle.chaos_moving.proofs.Lists.{map_twice, filter_flat_map, filter_mapped, one_of}
@@ -76,22 +77,26 @@ module _ (s : Scene) (owners : List (List ℕ)) (new : List ℕ) (array p : ℕ)
   all_are : all_pairs (map rows (below s.nodes)) ≡ flat_map (λ q. map named (filter (comes q) (up_to (length new)))) (below s.nodes)
   all_are =
       flat_map-map pairs_in rows (below s.nodes)
-      ∙ ap (λ (f : ℕ → List (ℤ × ℤ)). flat_map f (below s.nodes)) (λ i q. pairs_back pos (λ g. pos (owner_in new g)) (filter (comes q) (up_to (length new))) i)
+      ∙ ap (λ (f : ℕ → List (ℤ × ℤ)). flat_map f (below s.nodes)) (λ i q. pairs_back pos (λ g. pos (owner_in new g))
+      (filter (comes q) (up_to (length new))) i)
 
   of_one : (g q : ℕ) → 1 ≤ g → g ≤ length new → page_of (length new) s.nodes g ≡ p
-      → filter (λ (pair : ℤ × ℤ). is_element pair.0 g) (map named (filter (comes q) (up_to (length new)))) ≡ cond (owner_for s.checked.arrays owners array (pos g) == q) (named g ∷ []) []
+      → filter (λ (pair : ℤ × ℤ). is_element pair.0 g) (map named (filter (comes q) (up_to (length new))))
+      ≡ cond (owner_for s.checked.arrays owners array (pos g) == q) (named g ∷ []) []
   of_one g q low high here =
       filter_mapped (λ (pair : ℤ × ℤ). is_element pair.0 g) named (filter (comes q) (up_to (length new)))
       ∙ ap (map named) (filter-both (comes q) (λ x. x == g) (up_to (length new)) ∙ one_kept (comes q) g (length new) low high)
       ∙ map_cond named (comes q g) g
-      ∙ ap (λ b. cond b (named g ∷ []) []) (and_true (owner_for s.checked.arrays owners array (pos g) == q) (page_of (length new) s.nodes g == p) (ap (λ n. n == p) here ∙ same_number p))
+      ∙ ap (λ b. cond b (named g ∷ []) []) (and_true (owner_for s.checked.arrays owners array (pos g) == q)
+      (page_of (length new) s.nodes g == p) (ap (λ n. n == p) here ∙ same_number p))
 
   pub covers_once : CoversOnce s.nodes p new (map rows (below s.nodes))
   covers_once g low high here =
       ap (filter (λ (pair : ℤ × ℤ). is_element pair.0 g)) all_are
       ∙ filter_flat_map (λ (pair : ℤ × ℤ). is_element pair.0 g) (λ q. map named (filter (comes q) (up_to (length new)))) (below s.nodes)
       ∙ ap (λ (f : ℕ → List (ℤ × ℤ)). flat_map f (below s.nodes)) (λ i q. of_one g q low high here i)
-      ∙ one_of (λ q. named g ∷ []) (owner_for s.checked.arrays owners array (pos g)) 0 s.nodes (omega arith) (omega (arith, spread g low high))
+      ∙ one_of (λ q. named g ∷ []) (owner_for s.checked.arrays owners array (pos g)) 0 s.nodes (omega arith)
+      (omega (arith, spread g low high))
 
 -- ---- counts, and the page
 
@@ -105,15 +110,18 @@ module _ (share : Share) (s : Scene) (owners : List (List ℕ)) (store : List (L
   counts_sent =
       ap (λ n. map (λ q. counts_of n (owners_on share.extent n share.me pairs)) (below n)) has.count
       ∙ ap (λ e. map (λ q. counts_of s.nodes (owners_on e s.nodes share.me pairs)) (below s.nodes)) (sym size)
-      ∙ ap (λ (l : List ℤ). map (λ q. l) (below s.nodes)) (counts-of_layout s.nodes share.me new pairs covered ∙ counts_are s.nodes share.me new)
+      ∙ ap (λ (l : List ℤ). map (λ q. l) (below s.nodes)) (counts-of_layout s.nodes share.me new pairs covered
+      ∙ counts_are s.nodes share.me new)
 
-  counted : (taken : List (List ℤ)) → share.me < s.nodes → taken ≡ taken_in s owners store share.decomposition new stage.PageCounts share.me → CountsBefore s.nodes share.me new taken
+  counted : (taken : List (List ℤ)) → share.me < s.nodes → taken ≡ taken_in s owners store share.decomposition new stage.PageCounts
+      share.me → CountsBefore s.nodes share.me new taken
   counted taken there is before less =
       ap (λ (l : List (List ℤ)). list_at l before) is
       ∙ by_node (λ q. map pos (counts_on_page s.nodes q new)) before s.nodes (omega arith)
       ∙ sym (counts_are s.nodes before new)
 
-  pub page_is : (taken : List (List ℤ)) → share.me < s.nodes → taken ≡ taken_in s owners store share.decomposition new stage.PageCounts share.me
+  pub page_is : (taken : List (List ℤ)) → share.me < s.nodes → taken ≡ taken_in s owners store share.decomposition new stage.PageCounts
+      share.me
       → IsPageOf s.nodes share.me new (page_given share.extent share.nodes share.me pairs taken)
   page_is taken there is =
       let page : page_given (length new) s.nodes share.me pairs taken ≡ page_given share.extent share.nodes share.me pairs taken =

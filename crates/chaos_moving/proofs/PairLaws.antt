@@ -1,6 +1,8 @@
 -- The pairs of a map array on a node are the numbers that it sends to each page.
-use Rattle.std.proofs.Common.{◌≡◌, refl, ℕ, ◌+◌, ◌-◌, ◌<◌, ◌≤◌, ◌==◌, ◌&&◌, Bool, true, false, List, [], ◌∷◌, cond, length, map, filter, get_or, ap, sym, subst, ◌∙◌, arith, zero-add}
-use Rattle.std.specs.Prelude.{ℤ, pos, negsuc, All, Option, Some, None, slice_get, unwrap_or, nat_lt, nat_le, int_le, ◌-ℤ◌, ◌+ℤ◌, if◌then◌else◌}
+use Rattle.std.proofs.Common.{◌≡◌, refl, ℕ, ◌+◌, ◌-◌, ◌<◌, ◌≤◌, ◌==◌, ◌&&◌, Bool, true, false, List, [], ◌∷◌, cond, length, map, filter}
+use Rattle.std.proofs.Common.{get_or, ap, sym, subst, ◌∙◌, arith, zero-add}
+use Rattle.std.specs.Prelude.{ℤ, pos, negsuc, All, Option, Some, None, slice_get, unwrap_or, nat_lt, nat_le, int_le, ◌-ℤ◌, ◌+ℤ◌}
+use Rattle.std.specs.Prelude.{if◌then◌else◌}
 use Rattle.std.specs.List.{flat_map}
 use Rattle.std.specs.Option.{option_map}
 use Rattle.std.proofs.lemmas.Bool.Decides.{nat_tests}
@@ -17,8 +19,8 @@ use Rattle.chaos_dist.specs.Owners.{owner_in, elements_on, page_of}
 use Rattle.fd_program.specs.Layouts.{Scene, mapped_owners}
 use Rattle.fd_program.specs.Places.{decomposition_of, owner_for, value_on}
 use Rattle.fd_program.specs.Stores.{array_at, element, is_within, number_at}
-use Rattle.chaos_run.specs.Phases.{map_rows}
-use Rattle.chaos_run.specs.declared.stage.Stage.TheVariants as stage
+use Rattle.plan_run.specs.Phases.{map_rows}
+use Rattle.plan_run.specs.declared.stage.Stage.TheVariants as stage
 use Rattle.chaos_moving.specs.declared.share.Share.{Share}
 use Rattle.chaos_moving.specs.Pairs.{element_at, pairs_to_page, pairs_at, map_pairs}
 use Rattle.chaos_moving.specs.IsMoving.{HasShare, HasMap, StandsOnNodes, sent_in}
@@ -31,9 +33,11 @@ remainder-below (pos a) nodes some = mod_below a nodes (omega (arith, some))
 remainder-below (negsuc a) nodes some = omega (arith, some)
 
 pub mapped_owned : (nodes : ℕ) (values : List ℤ) → 1 ≤ nodes → All (λ o. o < nodes) (mapped_owners nodes values)
-mapped_owned nodes values some = All-map (λ o. o < nodes) (λ (v : ℤ). remainder_of v nodes) values (λ k d h. remainder-below (get_or values k d) nodes some)
+mapped_owned nodes values some = All-map (λ o. o < nodes) (λ (v : ℤ). remainder_of v nodes) values
+    (λ k d h. remainder-below (get_or values k d) nodes some)
 
-owner_mapped : (nodes g : ℕ) (values : List ℤ) → 1 ≤ g → g ≤ length values → owner_in (mapped_owners nodes values) g ≡ remainder_of (number_at values (g - 1)) nodes
+owner_mapped : (nodes g : ℕ) (values : List ℤ) → 1 ≤ g → g ≤ length values → owner_in (mapped_owners nodes values) g ≡ remainder_of
+    (number_at values (g - 1)) nodes
 owner_mapped nodes g values low high =
     let there : g - 1 < length values = omega arith in
     unwrap_or-slice_get (mapped_owners nodes values) (g - 1) 0
@@ -47,12 +51,15 @@ abbrev row_to : ℕ → ℕ → ℕ → Option ℕ → ℤ → List ℤ
 row_to extent nodes q None value = []
 row_to extent nodes q (Some g) value = cond (page_of extent nodes g == q) (pos g ∷ pos (remainder_of value nodes) ∷ []) []
 
-two_kept : (w q : ℕ) (a b : ℤ) → map (λ (pair : ℕ × ℤ). pair.1) (filter (λ (pair : ℕ × ℤ). pair.0 == q) ((w, a) ∷ (w, b) ∷ [])) ≡ cond (w == q) (a ∷ b ∷ []) []
+two_kept : (w q : ℕ) (a b : ℤ) → map (λ (pair : ℕ × ℤ). pair.1) (filter (λ (pair : ℕ × ℤ). pair.0 == q) ((w, a) ∷ (w, b) ∷ []))
+    ≡ cond (w == q) (a ∷ b ∷ []) []
 two_kept w q a b =
-    elim (w == q) as (λ t. map (λ (pair : ℕ × ℤ). pair.1) (cond t ((w, a) ∷ cond t ((w, b) ∷ []) []) (cond t ((w, b) ∷ []) [])) ≡ cond t (a ∷ b ∷ []) []) [ true ↦ refl | false ↦ refl ]
+    elim (w == q) as (λ t. map (λ (pair : ℕ × ℤ). pair.1) (cond t ((w, a) ∷ cond t ((w, b) ∷ []) []) (cond t ((w, b) ∷ []) []))
+    ≡ cond t (a ∷ b ∷ []) []) [ true ↦ refl | false ↦ refl ]
 
 kept_is : (extent nodes q : ℕ) (o : Option ℕ) (value : ℤ)
-    → map (λ (pair : ℕ × ℤ). pair.1) (filter (λ (pair : ℕ × ℤ). pair.0 == q) (pairs_to_page extent nodes o value)) ≡ row_to extent nodes q o value
+    → map (λ (pair : ℕ × ℤ). pair.1) (filter (λ (pair : ℕ × ℤ). pair.0 == q) (pairs_to_page extent nodes o value))
+    ≡ row_to extent nodes q o value
 kept_is extent nodes q None value = refl
 kept_is extent nodes q (Some g) value = two_kept (page_of extent nodes g) q (pos g) (pos (remainder_of value nodes))
 
@@ -125,16 +132,19 @@ module _ (share : Share) (s : Scene) (owners : List (List ℕ)) (store : List (L
 
   value_stands : (g : ℕ) → 1 ≤ g → g ≤ share.extent → value (g + offset) ≡ number_at (list_at store array) (g - 1)
   value_stands g low high =
-      let z : pos (g + offset) -ℤ (array_at s.checked.arrays array).offset ≡ pos g = ap (λ o. pos (g + offset) -ℤ o) map_is.stands ∙ omega (arith, ints) in
+      let z : pos (g + offset) -ℤ (array_at s.checked.arrays array).offset ≡ pos g = ap (λ o. pos (g + offset) -ℤ o) map_is.stands
+      ∙ omega (arith, ints) in
       ap (λ y. if is_within s.checked.arrays array y then element store array y else pos 0) z
       ∙ ap (λ n. if (int_le (pos 1) (pos g) && int_le (pos g) (pos n)) then element store array (pos g) else pos 0) map_is.extent
       ∙ ap (λ b. if b then element store array (pos g) else pos 0) (is_within_it g share.extent low high)
 
-  row_stands : (q g : ℕ) → 1 ≤ g → g ≤ share.extent → row q (g + offset) ≡ cond (page_of share.extent s.nodes g == q) (pos g ∷ pos (owner_in new g) ∷ []) []
+  row_stands : (q g : ℕ) → 1 ≤ g → g ≤ share.extent → row q (g + offset) ≡ cond (page_of share.extent s.nodes g == q)
+      (pos g ∷ pos (owner_in new g) ∷ []) []
   row_stands q g low high =
       ap (λ o. row_to share.extent s.nodes q o (value (g + offset))) (stands share.extent offset g low high)
       ∙ ap (λ v. cond (page_of share.extent s.nodes g == q) (pos g ∷ pos (remainder_of v s.nodes) ∷ []) []) (value_stands g low high)
-      ∙ ap (λ o. cond (page_of share.extent s.nodes g == q) (pos g ∷ pos o ∷ []) []) (sym (owner_mapped s.nodes g (list_at store array) low (subst (λ n. g ≤ n) (sym map_is.size) high)))
+      ∙ ap (λ o. cond (page_of share.extent s.nodes g == q) (pos g ∷ pos o ∷ []) [])
+      (sym (owner_mapped s.nodes g (list_at store array) low (subst (λ n. g ≤ n) (sym map_is.size) high)))
 
   abbrev mine : ℕ → ℕ → List ℤ
   mine q e = cond (owner_in there e == share.me) (row q e) []
@@ -153,7 +163,8 @@ module _ (share : Share) (s : Scene) (owners : List (List ℕ)) (store : List (L
 
   empty : (q e : ℕ) → element_at share.extent offset (pos e) ≡ None → mine q e ≡ []
   empty q e none =
-      ap (λ o. cond (owner_in there e == share.me) (row_to share.extent s.nodes q o (value e)) []) none ∙ cond_none (owner_in there e == share.me) []
+      ap (λ o. cond (owner_in there e == share.me) (row_to share.extent s.nodes q o (value e)) []) none
+      ∙ cond_none (owner_in there e == share.me) []
 
   page_rows : (q : ℕ) → flat_map (row q) es ≡ flat_map pair (filter (wanted q) (up_to share.extent))
   page_rows q =
@@ -165,9 +176,12 @@ module _ (share : Share) (s : Scene) (owners : List (List ℕ)) (store : List (L
       (λ e h. empty q e (not_last share.extent offset e (omega arith)))
       ∙ sym (flat_map_filtered pair (wanted q) (up_to share.extent))
 
-  at_place : (q k e : ℕ) → slice_get es k ≡ Some e → map (λ (pair : ℕ × ℤ). pair.1) (filter (λ (pair : ℕ × ℤ). pair.0 == q) (pairs_at share.extent s.nodes offset elements values k)) ≡ row q e
+  at_place : (q k e : ℕ) → slice_get es k ≡ Some e
+      → map (λ (pair : ℕ × ℤ). pair.1) (filter (λ (pair : ℕ × ℤ). pair.0 == q) (pairs_at share.extent s.nodes offset elements values k))
+      ≡ row q e
   at_place q k e is =
-      let first : get_or elements k (pos 0) ≡ pos e = ap (λ l. get_or l k (pos 0)) map_is.mine ∙ sym (unwrap_or-slice_get (map pos es) k (pos 0)) ∙ number_of_map pos es k e is in
+      let first : get_or elements k (pos 0) ≡ pos e = ap (λ l. get_or l k (pos 0)) map_is.mine
+      ∙ sym (unwrap_or-slice_get (map pos es) k (pos 0)) ∙ number_of_map pos es k e is in
       let second : number_at values k ≡ value e = ap (λ l. number_at l k) map_is.part ∙ number_of_map value es k e is in
       kept_is share.extent s.nodes q (element_at share.extent offset (get_or elements k (pos 0))) (number_at values k)
       ∙ ap (λ v. row_to share.extent s.nodes q (element_at share.extent offset v) (number_at values k)) first
@@ -176,7 +190,8 @@ module _ (share : Share) (s : Scene) (owners : List (List ℕ)) (store : List (L
   size : length new ≡ share.extent
   size = length-mapped (λ (v : ℤ). remainder_of v s.nodes) (list_at store array) ∙ map_is.size
 
-  to_page : (q : ℕ) → map (λ (pair : ℕ × ℤ). pair.1) (filter (λ (pair : ℕ × ℤ). pair.0 == q) (flat_map (pairs_at share.extent s.nodes offset elements values) (below (length elements))))
+  to_page : (q : ℕ) → map (λ (pair : ℕ × ℤ). pair.1)
+      (filter (λ (pair : ℕ × ℤ). pair.0 == q) (flat_map (pairs_at share.extent s.nodes offset elements values) (below (length elements))))
       ≡ map_rows s owners new array share.me q
   to_page q =
       let f = pairs_at share.extent s.nodes offset elements values in
@@ -186,9 +201,11 @@ module _ (share : Share) (s : Scene) (owners : List (List ℕ)) (store : List (L
       ∙ ap (λ n. flat_map kept (below n)) (ap (λ l. length l) map_is.mine ∙ length-mapped pos es)
       ∙ flat_map_at kept (row q) 0 es (λ k e is. ap kept (zero-add k) ∙ at_place q k e is)
       ∙ page_rows q
-      ∙ ap (λ n. flat_map pair (filter (λ g. (owner_for s.checked.arrays owners array (pos g) == share.me) && (page_of n s.nodes g == q)) (up_to n))) (sym size)
+      ∙ ap (λ n. flat_map pair (filter (λ g. (owner_for s.checked.arrays owners array (pos g) == share.me) && (page_of n s.nodes g == q))
+      (up_to n))) (sym size)
 
-  pub pairs_sent : map_pairs share.extent share.nodes offset elements values ≡ sent_in s owners store share.decomposition new (stage.MapPairs array) share.me
+  pub pairs_sent : map_pairs share.extent share.nodes offset elements values ≡ sent_in s owners store share.decomposition new
+      (stage.MapPairs array) share.me
   pairs_sent =
       ap (λ n. map_pairs share.extent n offset elements values) has.count
       ∙ ap (λ (list : ℕ → List ℤ). map list (below s.nodes)) (λ i q. to_page q i)

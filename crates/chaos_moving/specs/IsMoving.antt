@@ -8,10 +8,10 @@ use Rattle.fd_program.specs.Places.{decomposition_of, owner_for, value_on, part_
 use Rattle.fd_program.specs.Stores.{array_at}
 use Rattle.chaos_remap.specs.declared.place.Remapped.{Remapped}
 use Rattle.chaos_table.specs.declared.pages.Pages.{Pages}
-use Rattle.chaos_run.specs.Held.{place_in, IsPageOf, HasPage}
-use Rattle.chaos_run.specs.Phases.{arrays_in, move_numbers, moving_of}
-use Rattle.chaos_run.specs.declared.stage.Stage.{Stage}
-use Rattle.chaos_run.specs.declared.stage.Stage.TheVariants as stage
+use Rattle.plan_run.specs.Held.{place_in, IsPageOf, HasPage}
+use Rattle.plan_run.specs.Phases.{arrays_in, move_numbers, moving_of}
+use Rattle.plan_run.specs.declared.stage.Stage.{Stage}
+use Rattle.plan_run.specs.declared.stage.Stage.TheVariants as stage
 use Rattle.chaos_table.specs.Laws.{IsCovered}
 use Rattle.chaos_dist.specs.declared.step_form.StepForm.{StepForm}
 use Rattle.chaos_dist.specs.declared.step_form.StepForm.TheVariants.{Regular, Map}
@@ -33,7 +33,8 @@ pub record HasShare (share : Share) (s : Scene) (owners : List (List ℕ)) (stor
 
 -- The map array on a node: the elements of its decomposition, its local part, and its offset. It has the extent of the decomposition that
 -- is moved, its elements stand within its own, and each node of that is one of the nodes.
-pub record HasMap (share : Share) (s : Scene) (owners : List (List ℕ)) (store : List (List ℤ)) (array offset : ℕ) (elements values : List ℤ) : Type 0 where
+pub record HasMap (share : Share) (s : Scene) (owners : List (List ℕ)) (store : List (List ℤ)) (array offset : ℕ)
+    (elements values : List ℤ) : Type 0 where
   pub extent : (array_at s.checked.arrays array).extent ≡ share.extent
   pub stands : (array_at s.checked.arrays array).offset ≡ pos offset
   pub last : share.extent + offset ≤ length (list_at owners (decomposition_of s.checked.arrays array))
@@ -71,8 +72,10 @@ InHand s owners store new share (at.Pairing array pairs) =
     (pairs ≡ sent_in s owners store share.decomposition new (stage.MapPairs array) share.me) × StandsOnNodes s owners array (length new)
 InHand s owners store new share (at.Counting pairs) = IsCovered s.nodes share.me new pairs
 InHand s owners store new share at.Asking = Unit {0}
-InHand s owners store new share (at.Answering asked) = asked ≡ map (λ q. map pos (moving_of s.nodes (list_at owners share.decomposition) q share.me)) (below s.nodes)
-InHand s owners store new share (at.Remapping places) = places ≡ map (place_in new) (elements_on (list_at owners share.decomposition) share.me)
+InHand s owners store new share (at.Answering asked) =
+    asked ≡ map (λ q. map pos (moving_of s.nodes (list_at owners share.decomposition) q share.me)) (below s.nodes)
+InHand s owners store new share (at.Remapping places) =
+    places ≡ map (place_in new) (elements_on (list_at owners share.decomposition) share.me)
 InHand s owners store new share (at.Moved part) = HasPart part s store share.decomposition new share.me
 
 abbrev pub IsMap : StepForm → Type 0
@@ -100,5 +103,6 @@ pub record IsMoving (x : Moving) (s : Scene) (owners : List (List ℕ)) (store :
 -- the elements and the local parts under the new owners, and the page where the form is a map
 pub record HasMoved (x : Moved) (s : Scene) (store : List (List ℤ)) (d : ℕ) (form : StepForm) (new : List ℕ) (p : ℕ) : Type 0 where
   pub mine : x.elements ≡ map pos (elements_on new p)
-  pub parts : (after : List (List ℕ)) → list_at after d ≡ new → x.pieces ≡ map (part_of s.checked.arrays after store p) (arrays_in s.checked d)
+  pub parts : (after : List (List ℕ)) → list_at after d ≡ new → x.pieces ≡ map (part_of s.checked.arrays after store p)
+      (arrays_in s.checked d)
   pub page : HasPage s.nodes p form new x.page

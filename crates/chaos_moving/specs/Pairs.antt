@@ -1,11 +1,12 @@
 -- The pairs of an element of a map array and its new owner, by page.
-use Rattle.std.specs.Prelude.{ℕ, ℤ, pos, negsuc, ◌-◌, ◌&&◌, if◌then◌else◌, List, [], ◌∷◌, length, flat_map, Option, Some, None, nat_lt, nat_le}
+use Rattle.std.specs.Prelude.{ℕ, ℤ, pos, negsuc, ◌-◌, ◌&&◌, if◌then◌else◌, List, [], ◌∷◌, length, flat_map, Option, Some, None, nat_lt}
+use Rattle.std.specs.Prelude.{nat_le}
 use Rattle.std.specs.List.{slice_index_or}
 use Rattle.fd_words.specs.Lists.{pushed_at}
 use Rattle.fd_words.specs.Value.{remainder_of}
 use Rattle.chaos_dist.specs.Counting.{below}
 use Rattle.chaos_dist.specs.Owners.{page_of}
-use Rattle.chaos_order.specs.Dealt.{dealt}
+use Rattle.list_laws.specs.Dealt.{dealt}
 use Rattle.fd_program.specs.Stores.{number_at}
 
 -- the array's element that stands at the element that a number names, if there is one
@@ -30,4 +31,5 @@ pairs_at extent nodes offset elements values at =
 
 abbrev pub map_pairs : ℕ → ℕ → ℕ → List ℤ → List ℤ → List (List ℤ)
 map_pairs extent nodes offset elements values =
-    dealt (λ (pair : ℕ × ℤ). pair.0) (λ (pair : ℕ × ℤ). pair.1) nodes (flat_map (pairs_at extent nodes offset elements values) (below (length elements)))
+    dealt (λ (pair : ℕ × ℤ). pair.0) (λ (pair : ℕ × ℤ). pair.1) nodes (flat_map (pairs_at extent nodes offset elements values)
+    (below (length elements)))

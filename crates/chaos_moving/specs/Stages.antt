@@ -8,8 +8,8 @@ use Rattle.chaos_dist.specs.Layout.{owner_of, local_of}
 use Rattle.chaos_dist.specs.declared.shape.Shape.{Shape}
 use Rattle.chaos_remap.specs.Remapping.{planned, packed_rows}
 use Rattle.chaos_remap.specs.Remapped.{remapped}
-use Rattle.chaos_run.specs.declared.stage.Stage.{Stage}
-use Rattle.chaos_run.specs.declared.stage.Stage.TheVariants as stage
+use Rattle.plan_run.specs.declared.stage.Stage.{Stage}
+use Rattle.plan_run.specs.declared.stage.Stage.TheVariants as stage
 use Rattle.chaos_table.specs.declared.pages.Pages.{Pages}
 use Rattle.chaos_moving.specs.Asks.{asks_named, asked_in, answers_by}
 use Rattle.chaos_moving.specs.declared.share.Share.{Share}
@@ -18,7 +18,11 @@ use Rattle.chaos_moving.specs.declared.moving.MovingStage.TheVariants.{Pairing, 
 
 -- the place of the element that a number names, under a regular shape
 abbrev pub regular_place : Shape → ℕ → ℕ → ℤ → Place
-regular_place shape extent nodes v = record { owner = owner_of shape extent nodes (unsigned_abs v); local = local_of shape extent nodes (unsigned_abs v) }
+regular_place shape extent nodes v = record {
+  owner = owner_of shape extent nodes (unsigned_abs v);
+  local = local_of shape extent nodes
+      (unsigned_abs v);
+}
 
 -- the stages that are left
 abbrev pub left_in : MovingStage → List Stage
@@ -36,7 +40,8 @@ stage_in m = slice_get (left_in m) 0
 -- one list for each node
 abbrev pub sent_by : Share → Option Pages → MovingStage → List (List ℤ)
 sent_by share page (Pairing array pairs) = pairs
-sent_by share page (Counting pairs) = map (λ q. counts_of share.nodes (owners_on share.extent share.nodes share.me pairs)) (below share.nodes)
+sent_by share page (Counting pairs) = map (λ q. counts_of share.nodes (owners_on share.extent share.nodes share.me pairs))
+    (below share.nodes)
 sent_by share page Asking = map (asks_named share.decomposition) (asks_for share.extent share.nodes share.elements)
 sent_by share page (Answering asked) = answers_by page asked
 sent_by share page (Remapping places) = map (packed_rows share.elements share.pieces) (planned share.nodes places)

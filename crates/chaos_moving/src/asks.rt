@@ -11,7 +11,8 @@ use std::alloc::Global;
 
 /// The elements that the node has, by page, each behind its decomposition.
 pub(crate) fn ask_lists(alloc: Global, share: &Share) -> Result<NumberLists, Memory>
-    ensures { IfOk result (λ lists. lists ≡ map (asks_named share.now.decomposition) (asks_for share.now.extent share.now.nodes share.now.elements)) }
+    ensures { IfOk result (λ lists. lists ≡ map (asks_named share.now.decomposition)
+        (asks_for share.now.extent share.now.nodes share.now.elements)) }
 {
     let asks = split_asks(alloc, share.extent, share.nodes, &share.elements)?;
     name_all(alloc, share.decomposition, asks.as_slice())

@@ -13,7 +13,9 @@ pub(crate) fn count_lists(
     share: &Share,
     pairs: &NumberLists,
 ) -> Result<NumberLists, Memory>
-    ensures { IfOk result (λ lists. lists ≡ map (λ q. counts_of share.now.nodes (owners_on share.now.extent share.now.nodes share.now.me pairs.now)) (below share.now.nodes)) }
+    ensures { IfOk result (λ lists. lists
+        ≡ map (λ q. counts_of share.now.nodes (owners_on share.now.extent share.now.nodes share.now.me pairs.now))
+        (below share.now.nodes)) }
 {
     let counts = page_counts(alloc, share.extent, share.nodes, share.me, pairs)?;
     copies(alloc, share.nodes, &counts)

@@ -6,7 +6,7 @@ ghost use Rattle.chaos_dist.specs.declared.step_form.StepForm.TheVariants.{Regul
 ghost use Rattle.fd_words.specs.Lists.{list_at};
 ghost use Rattle.chaos_deref.specs.Asking.{joined};
 ghost use Rattle.chaos_table.specs.Pages.{page_given};
-ghost use Rattle.chaos_run.specs.Phases.{moving_stages};
+ghost use Rattle.plan_run.specs.Phases.{moving_stages};
 ghost use Rattle.chaos_moving.specs.Stages.{left_in, later_page, page_made, sent_by, stage_after, stage_in};
 ghost use Rattle.chaos_moving.specs.IsMoving.{HasMap, HasMoved, HasShare, IsMoving, sent_in, taken_in};
 
@@ -19,9 +19,9 @@ use crate::share::Share;
 use chaos_deref::join_answers;
 use chaos_dist::{Shape, StepForm};
 use chaos_remap::Remapped;
-use chaos_run::Stage;
 use chaos_table::Pages;
 use fd_words::{Memory, NumberLists, Numbers, Places};
+use plan_run::Stage;
 use std::alloc::Global;
 
 /// How far a move has come on one node.
@@ -92,7 +92,8 @@ impl Moving {
         ensures form { IfOk result (λ x. x.form ≡ Map array) }
         ensures stages { IfOk result (λ x. left_in x.stage ≡ moving_stages (Map array)) }
         ensures moving { IfOk result (λ x. (s : Scene) (owners : List (List ℕ)) (store : List (List ℤ)) → HasShare share s owners store
-            → HasMap share s owners store array offset elements.now values.now → IsMoving x s owners store (mapped_owners s.nodes (list_at store array))) }
+            → HasMap share s owners store array offset elements.now values.now
+            → IsMoving x s owners store (mapped_owners s.nodes (list_at store array))) }
     {
         let pairs = pair_lists(alloc, &share, offset, elements, values)?;
         Ok(Moving {
@@ -119,8 +120,10 @@ impl Moving {
 
     /// What the node sends in this stage, one list per node, its own among them.
     pub fn outgoing(&self, alloc: Global) -> Result<NumberLists, Memory>
-        ensures { IfOk result (λ lists. (s : Scene) (owners : List (List ℕ)) (store : List (List ℤ)) (new : List ℕ) → IsMoving self.now s owners store new
-            → IfSome (stage_in self.now.stage) (λ stage. lists ≡ sent_in s owners store self.now.share.decomposition new stage self.now.share.me)) }
+        ensures { IfOk result (λ lists. (s : Scene) (owners : List (List ℕ)) (store : List (List ℤ)) (new : List ℕ)
+            → IsMoving self.now s owners store new
+            → IfSome (stage_in self.now.stage) (λ stage. lists ≡ sent_in s owners store self.now.share.decomposition new stage
+            self.now.share.me)) }
     {
         let lists = self.lists(alloc)?;
         Ok(lists)
@@ -145,8 +148,10 @@ impl Moving {
         ensures share { self.new.share ≡ self.old.share }
         ensures form { self.new.form ≡ self.old.form }
         ensures stages { OnOk result (left_in self.new.stage ≡ drop 1 (left_in self.old.stage)) }
-        ensures moving { OnOk result ((s : Scene) (owners : List (List ℕ)) (store : List (List ℤ)) (new : List ℕ) → IsMoving self.old s owners store new
-            → IfSome (stage_in self.old.stage) (λ stage. taken ≡ taken_in s owners store self.old.share.decomposition new stage self.old.share.me)
+        ensures moving { OnOk result ((s : Scene) (owners : List (List ℕ)) (store : List (List ℤ)) (new : List ℕ)
+            → IsMoving self.old s owners store new
+            → IfSome (stage_in self.old.stage) (λ stage. taken ≡ taken_in s owners store self.old.share.decomposition new stage
+            self.old.share.me)
             → IsMoving self.new s owners store new) }
         ensures err { OnErr result (self.new ≡ self.old) }
     {

@@ -1,12 +1,13 @@
 -- What a FORALL counts behind an execution.
-use Rattle.std.specs.Prelude.{◌≡◌, refl, ℕ, zero, suc, ◌-◌, ◌<◌, ℤ, pos, Bool, true, false, if◌then◌else◌, List, [], ◌∷◌, ◌++◌, length, map, slice_get, sum_by, Option, Some}
+use Rattle.std.specs.Prelude.{◌≡◌, refl, ℕ, zero, suc, ◌-◌, ◌<◌, ℤ, pos, Bool, true, false, if◌then◌else◌, List, [], ◌∷◌, ◌++◌, length, map}
+use Rattle.std.specs.Prelude.{slice_get, sum_by, Option, Some}
 use Rattle.std.specs.List.{AllByRecursion}
 use Rattle.std.specs.Option.{option_map_or}
 use Rattle.std.specs.Ordering.{int_eq}
 use Rattle.std.proofs.Common.{ap, ◌∙◌, arith, append-nil}
 use Rattle.std.proofs.lemmas.Bool.Decides.{nat_tests}
 use Rattle.chaos_executing.specs.Counts.{CountsAreReported}
-use Rattle.chaos_phases.specs.Fits.{Fits}
+use Rattle.plan_tables.specs.Fits.{Fits}
 use Rattle.chaos_sched.specs.declared.prepared.Prepared.{Prepared}
 use Rattle.fd_program.specs.Homes.{needed_of}
 use Rattle.fd_program.specs.ListLaws.{all_append, all_weaker}
@@ -27,7 +28,8 @@ inspecting_below : (c : Checked) (past : List Step) → AllByRecursion (λ n. n 
 inspecting_below c [] = tt
 inspecting_below c (step ∷ past) =
     all_append (λ n. n < suc (length past)) (inspecting_of c past) (one_if (inspects_step c past step) (length past))
-    (all_weaker (λ n. n < length past) (λ n. n < suc (length past)) (λ n h. omega (arith, h)) (inspecting_of c past) (inspecting_below c past))
+    (all_weaker (λ n. n < length past) (λ n. n < suc (length past)) (λ n h. omega (arith, h)) (inspecting_of c past)
+    (inspecting_below c past))
     (by (inspects_step c past step))
   where
     by : (b : Bool) → AllByRecursion (λ n. n < suc (length past)) (one_if b (length past))
@@ -64,7 +66,8 @@ last_tells xs n false h =
     ap (λ l. is_last (map pos l) n) (append-nil xs) ∙ not_there xs n (length (map pos xs) - 1) h
 
 -- the present execution is the last of those that inspect exactly where it inspects
-pub last_inspects : (c : Checked) (past : List Step) (step : Step) → is_last (map pos (inspecting_of c (step ∷ past))) (length past) ≡ inspects_step c past step
+pub last_inspects : (c : Checked) (past : List Step) (step : Step) → is_last (map pos (inspecting_of c (step ∷ past))) (length past)
+    ≡ inspects_step c past step
 last_inspects c past step = last_tells (inspecting_of c past) (length past) (inspects_step c past step) (inspecting_below c past)
 
 -- ---- what is counted
@@ -72,7 +75,8 @@ last_inspects c past step = last_tells (inspecting_of c past) (length past) (ins
 abbrev count_with : Bool → ℕ → ℕ → SiteCount
 count_with b gathered scattered = record { executed = 1; inspected = if b then 1 else 0; gathered = gathered; scattered = scattered }
 
-pub counted_same : CountsAreReported → (f : LoopFacts) (owners : List (List ℕ)) (store : List (List ℤ)) (slots : ℕ → ℕ → Option ℕ) (p : ℕ) (kept : Prepared) (b : Bool)
+pub counted_same : CountsAreReported → (f : LoopFacts) (owners : List (List ℕ)) (store : List (List ℤ)) (slots : ℕ → ℕ → Option ℕ) (p : ℕ)
+    (kept : Prepared) (b : Bool)
     → Fits f owners store slots p kept → counted_with kept b ≡ count_of_loop f owners store b p
 counted_same reported f owners store slots p kept b fits =
     let both = reported f owners store slots p kept fits in

@@ -3,20 +3,20 @@ use Rattle.std.specs.Prelude.{◌≡◌, ℕ, ◌+◌, ◌<◌, ◌≤◌, List,
 use Rattle.std.specs.List.{AllByRecursion}
 use Rattle.std.specs.Option.{option_and_then}
 use Rattle.std.proofs.Common.{ap, sym, ◌∙◌, subst}
-use Rattle.std.proofs.lemmas.Grind.{reverse_onto}
 use Rattle.bsp_core.specs.Views.{Face, View, ready}
-use Rattle.chaos_facts.specs.FactsLaws.{IsStepIn, StepsAreIn}
+use Rattle.fd_program.specs.ListLaws.{all_split, all_reversed}
+use Rattle.fd_program.specs.StepLaws.{IsStepIn, StepsAreIn}
 use Rattle.fd_program.specs.Checks.{IsChecked}
 use Rattle.fd_program.specs.Trace.{trace_of}
 use Rattle.fd_program.specs.declared.trace.LoopTurn.{LoopTurn}
 use Rattle.fd_program.specs.declared.trace.Step.{Step}
 use Rattle.fd_program.specs.declared.trace.Step.TheVariants.{Forall}
-use Rattle.chaos_places.specs.LetterLaws.{letters_come_in, letters_for}
-use Rattle.chaos_places.specs.PhaseBegins.{rows_follow}
-use Rattle.chaos_places.specs.Places.{StandsBefore}
-use Rattle.chaos_places.specs.StepEnds.{steps_are_known}
-use Rattle.chaos_run.specs.Phases.{Phase}
-use Rattle.chaos_run.specs.Rows.{RunPlan, face_left, node_row, phases_in, scene_in}
+use Rattle.plan_walk.specs.LetterLaws.{letters_come_in, letters_for}
+use Rattle.plan_walk.specs.PhaseBegins.{rows_follow}
+use Rattle.plan_walk.specs.Places.{StandsBefore}
+use Rattle.plan_walk.specs.StepEnds.{steps_are_known}
+use Rattle.plan_run.specs.Phases.{Phase}
+use Rattle.plan_run.specs.Rows.{RunPlan, face_left, node_row, phases_in, scene_in}
 use Rattle.chaos_holdings.specs.Executions.{turn_by, turn_in}
 use Rattle.chaos_entering.specs.State.{NodeState}
 
@@ -27,7 +27,8 @@ pub record EndsPhase (plan : RunPlan) (t p : ℕ) (f : Phase) (later : List Phas
   pub got : v.face.got ≡ letters_for (scene_in plan) f p
   pub behind : drop (t + 1) (phases_in plan) ≡ later
 
-pub ends_phase : (plan : RunPlan) (t p : ℕ) (f : Phase) (later : List Phase) (v : View NodeState) → p < plan.nodes → v.face ≡ ready (node_row plan t) p
+pub ends_phase : (plan : RunPlan) (t p : ℕ) (f : Phase) (later : List Phase) (v : View NodeState) → p < plan.nodes
+    → v.face ≡ ready (node_row plan t) p
     → drop t (phases_in plan) ≡ f ∷ later → EndsPhase plan t p f later v
 ends_phase plan t p f later v is_node row phases =
     let s = scene_in plan in
@@ -49,18 +50,10 @@ pub turn_is : (plan : RunPlan) (past rest : List Step) (site : ℕ) (turn : Loop
     → turn_in (trace_of plan.checked) (length past) ≡ Some turn
 turn_is plan past rest site turn h = ap (λ o. option_and_then turn_by o) (steps_are_known plan past (Forall site turn ∷ rest) h).next
 
-all_split : {A : Type 0} (P : A → Type 0) (xs ys : List A) → AllByRecursion P (xs ++ ys) → AllByRecursion P xs × AllByRecursion P ys
-all_split P [] ys h = (tt, h)
-all_split P (x ∷ xs) ys h = let rest = all_split P xs ys h.1 in ((h.0, rest.0), rest.1)
-
-all_reversed : {A : Type 0} (P : A → Type 0) (xs : List A) → AllByRecursion P (reverse xs) → AllByRecursion P xs
-all_reversed P [] h = tt
-all_reversed P (x ∷ xs) h =
-    let parts = all_split P (reverse xs) (x ∷ []) (subst (AllByRecursion P) (reverse_onto xs x []) h) in
-    (parts.1.0, all_reversed P xs parts.0)
-
 -- the steps behind are the program's
-pub steps_behind : StepsAreIn → (plan : RunPlan) (past rest : List Step) → IsChecked plan.checked → StandsBefore plan past rest → AllByRecursion (IsStepIn plan.checked) past
+pub steps_behind : StepsAreIn → (plan : RunPlan) (past rest : List Step) → IsChecked plan.checked → StandsBefore plan past rest
+    → AllByRecursion (IsStepIn plan.checked) past
 steps_behind steps plan past rest known h =
     all_reversed (IsStepIn plan.checked) past
-    (all_split (IsStepIn plan.checked) (reverse past) rest (subst (AllByRecursion (IsStepIn plan.checked)) (sym h.trace) (steps plan.checked known))).0
+    (all_split (IsStepIn plan.checked) (reverse past) rest (subst (AllByRecursion (IsStepIn plan.checked)) (sym h.trace)
+    (steps plan.checked known))).0

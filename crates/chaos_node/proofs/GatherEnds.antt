@@ -12,17 +12,18 @@ use Rattle.fd_program.specs.declared.trace.Step.TheVariants.{Forall}
 use Rattle.chaos_executing.specs.InRun.{CanExecute, IsExecuting, owed_at_loop}
 use Rattle.chaos_executing.specs.declared.executing.Executing.{Executing}
 use Rattle.chaos_facts.specs.Facts.{facts_in}
-use Rattle.chaos_facts.specs.FactsLaws.{FactsAreExact, StepsAreIn}
+use Rattle.chaos_facts.specs.FactsLaws.{FactsAreExact}
+use Rattle.fd_program.specs.StepLaws.{StepsAreIn}
 use Rattle.chaos_hash.specs.Stamps.{Stamps}
-use Rattle.chaos_phases.specs.declared.loop_phase.LoopPhase.TheVariants as phase
-use Rattle.chaos_places.specs.LetterLaws.{own_list_is_put_in}
-use Rattle.chaos_places.specs.Letters.{numbers_of, put_in}
-use Rattle.chaos_places.specs.PhaseBegins.{phases_follow}
-use Rattle.chaos_places.specs.Places.{left_in, present_phase, whole_left}
-use Rattle.chaos_run.specs.Held.{owed_at, text_on, lines_of}
-use Rattle.chaos_run.specs.Phases.{Phase, numbers_at}
-use Rattle.chaos_run.specs.Rows.{IsRunPlan, RunPlan, phases_in, run_in, scene_in}
-use Rattle.chaos_run.specs.declared.stage.Stage.TheVariants as stage
+use Rattle.plan_loop.specs.declared.loop_phase.LoopPhase.TheVariants as phase
+use Rattle.plan_walk.specs.LetterLaws.{own_list_is_put_in}
+use Rattle.plan_walk.specs.Letters.{numbers_of, put_in}
+use Rattle.plan_walk.specs.PhaseBegins.{phases_follow}
+use Rattle.plan_walk.specs.Places.{left_in, present_phase, whole_left}
+use Rattle.plan_run.specs.Held.{owed_at, text_on, lines_of}
+use Rattle.plan_run.specs.Phases.{Phase, numbers_at}
+use Rattle.plan_run.specs.Rows.{IsRunPlan, RunPlan, phases_in, run_in, scene_in}
+use Rattle.plan_run.specs.declared.stage.Stage.TheVariants as stage
 use Rattle.chaos_sched.specs.declared.prepared.Prepared.{Prepared}
 use Rattle.chaos_node.proofs.ExecutionPlaces.{EndsPhase, ends_phase, some_same, steps_behind, turn_is}
 use Rattle.chaos_node.specs.Changing.{ChangesRight, changed}
@@ -48,14 +49,16 @@ abbrev pub EntersScatter : Session → ℕ → ℕ → ℕ → Prepared → Exec
 EntersScatter session me execution site prepared x left e =
     (plan : RunPlan) (past rest : List Step) (turn : LoopTurn) (st : NodeState) → IsRunPlan plan → session ≡ session_in plan
     → execution ≡ length past → IsComing plan past (Forall site turn) rest (stage.InLoop phase.Scatter) [] me left st
-    → is_empty_turn turn ≡ false → prepared_in st.holdings.kept site ≡ Some prepared → IsExecuting (scene_in plan) past site turn me st.holdings.tables prepared x
+    → is_empty_turn turn ≡ false → prepared_in st.holdings.kept site ≡ Some prepared
+    → IsExecuting (scene_in plan) past site turn me st.holdings.tables prepared x
     → IsRight plan (left_in plan past (Forall site turn) rest (stage.InLoop phase.Scatter ∷ [])) me e st
 
 -- ---- nothing else happens
 
 -- a change that is made only where no FORALL gathers
 pub never_gathers : (v : View NodeState) (change : Change) → v.state.at.activity ≡ Gathering
-    → ((plan : RunPlan) (phases : List Phase) (p : ℕ) → v.state.session ≡ session_in plan → IsGather plan phases p v.state → ⊥) → ChangesRight v change
+    → ((plan : RunPlan) (phases : List Phase) (p : ℕ) → v.state.session ≡ session_in plan → IsGather plan phases p v.state → ⊥)
+    → ChangesRight v change
 never_gathers v change at none plan t p is is_node row holds =
     absurd (none plan (drop t (phases_in plan)) p holds.session (subst (IsPlace plan (drop t (phases_in plan)) p v.state) at holds.place))
 
@@ -80,7 +83,8 @@ site_there v none plan phases p session g =
 
 -- ---- the phase in which contributions are scattered is entered
 
-pub gather_ends : StepsAreIn → FactsAreExact → (v : View NodeState) (prepared : Prepared) (turn : LoopTurn) (x : Executing) (left : ℕ) (e : Entered)
+pub gather_ends : StepsAreIn → FactsAreExact → (v : View NodeState) (prepared : Prepared) (turn : LoopTurn) (x : Executing) (left : ℕ)
+    (e : Entered)
     → v.state.at.activity ≡ Gathering → prepared_in v.state.holdings.kept v.state.at.site ≡ Some prepared
     → turn_in v.state.session.trace v.state.at.execution ≡ Some turn → v.face.left ≡ left + 1
     → ExecutesRight v.state.holdings.tables prepared
@@ -91,7 +95,8 @@ pub gather_ends : StepsAreIn → FactsAreExact → (v : View NodeState) (prepare
 gather_ends steps exact v prepared turn x left e at kept turned less executes enters plan t p is is_node row holds =
     by (subst (IsPlace plan (drop t (phases_in plan)) p v.state) at holds.place)
   where
-    by : IsGather plan (drop t (phases_in plan)) p v.state → IsRight plan (drop (t + 1) (phases_in plan)) p e (changed v.state (record { effect = Nothing; line = []; entered = e }))
+    by : IsGather plan (drop t (phases_in plan)) p v.state → IsRight plan (drop (t + 1) (phases_in plan)) p e
+        (changed v.state (record { effect = Nothing; line = []; entered = e }))
     by g =
         let s = scene_in plan in
         let st = v.state in
@@ -102,20 +107,25 @@ gather_ends steps exact v prepared turn x left e at kept turned less executes en
         let later = left_in plan g.past step g.rest (scatter ∷ []) in
         let after = changed st (record { effect = Nothing; line = []; entered = e }) in
         let end : EndsPhase plan t p f later v =
-        ends_phase plan t p f later v is_node row (g.in_step.phases_are ∙ phases_follow plan g.past step g.rest (stage.InLoop phase.Gather) (scatter ∷ []) refl) in
-        let turn_same : turn ≡ g.turn = some_same turn g.turn (sym turned ∙ turn_known plan (drop t (phases_in plan)) p st g holds.session) in
+        ends_phase plan t p f later v is_node row (g.in_step.phases_are
+        ∙ phases_follow plan g.past step g.rest (stage.InLoop phase.Gather) (scatter ∷ []) refl) in
+        let turn_same : turn ≡ g.turn = some_same turn g.turn (sym turned
+        ∙ turn_known plan (drop t (phases_in plan)) p st g holds.session) in
         let same : prepared ≡ g.prepared = some_same prepared g.prepared (sym kept ∙ g.kept) in
-        let facts : facts_in st.session.checked st.session.nodes st.session.rule st.holdings.records site turn ≡ loop_at s g.past site g.turn =
+        let facts : facts_in st.session.checked st.session.nodes st.session.rule st.holdings.records site turn
+        ≡ loop_at s g.past site g.turn =
         ap (λ (x : Session). facts_in x.checked x.nodes x.rule st.holdings.records site turn) holds.session
         ∙ ap (facts_in plan.checked plan.nodes plan.rule st.holdings.records site) turn_same
-        ∙ exact plan.checked plan.nodes plan.rule g.past st.holdings.records site g.turn (steps_behind steps plan g.past (step ∷ g.rest) is.checked g.in_step.places) g.in_step.knows.stands.records in
+        ∙ exact plan.checked plan.nodes plan.rule g.past st.holdings.records site g.turn
+        (steps_behind steps plan g.past (step ∷ g.rest) is.checked g.in_step.places) g.in_step.knows.stands.records in
         let taken : put_in v.face.me st.at.own (map numbers_of v.face.got) ≡ owed_at_loop s g.past site g.turn phase.Gather p =
         ap (λ q. put_in q st.at.own (map numbers_of v.face.got)) end.me
         ∙ ap (λ own. put_in p own (map numbers_of v.face.got)) g.in_step.own
         ∙ ap (λ got. put_in p (numbers_at s g.past step (stage.InLoop phase.Gather) p p) (map numbers_of got)) end.got
         ∙ own_list_is_put_in s f p is_node refl in
         let executing : IsExecuting s g.past site g.turn p st.holdings.tables prepared x =
-        executes s g.past site g.turn p (subst (CanExecute s g.past site g.turn p st.holdings.tables) (sym same) g.can) facts g.in_step.knows.stands.parts taken in
+        executes s g.past site g.turn p (subst (CanExecute s g.past site g.turn p st.holdings.tables) (sym same) g.can) facts
+        g.in_step.knows.stands.parts taken in
         let knows = g.in_step.knows in
         let stands = knows.stands in
         let coming : IsComing plan g.past step g.rest scatter [] p left after = record {
@@ -124,7 +134,14 @@ gather_ends steps exact v prepared turn x left e at kept turned less executes en
           places = g.in_step.places;
           left_is = same_left left (whole_left plan g.past step g.rest (scatter ∷ [])) (sym less ∙ end.left);
           knows = record {
-            stands = record { parts = stands.parts; elements = stands.elements; records = stands.records; pages = stands.pages; counts = stands.counts; places = stands.places };
+            stands = record {
+              parts = stands.parts;
+              elements = stands.elements;
+              records = stands.records;
+              pages = stands.pages;
+              counts = stands.counts;
+              places = stands.places;
+            };
             keeps = knows.keeps;
             inspected = knows.inspected;
             text = append-nil st.text ∙ knows.text;
@@ -142,8 +159,10 @@ gather_ends steps exact v prepared turn x left e at kept turned less executes en
         same_left n m e = omega (arith, e)
 
 -- the same, seen from the node's fields
-pub gather_seen : StepsAreIn → FactsAreExact → (v w : View NodeState) (prepared : Prepared) (turn : LoopTurn) (x : Executing) (left : ℕ) (e : Entered) (line : List ℕ)
-    (facts : LoopFacts) (taken : List (List ℤ)) → v ≡ w → w.state.at.activity ≡ Gathering → prepared_in w.state.holdings.kept w.state.at.site ≡ Some prepared
+pub gather_seen : StepsAreIn → FactsAreExact → (v w : View NodeState) (prepared : Prepared) (turn : LoopTurn) (x : Executing) (left : ℕ)
+    (e : Entered) (line : List ℕ)
+    (facts : LoopFacts) (taken : List (List ℤ)) → v ≡ w → w.state.at.activity ≡ Gathering
+    → prepared_in w.state.holdings.kept w.state.at.site ≡ Some prepared
     → turn_in w.state.session.trace w.state.at.execution ≡ Some turn → w.face.left ≡ left + 1 → line ≡ []
     → facts ≡ facts_in v.state.session.checked v.state.session.nodes v.state.session.rule v.state.holdings.records v.state.at.site turn
     → taken ≡ put_in v.face.me v.state.at.own (map numbers_of v.face.got)
@@ -156,6 +175,8 @@ gather_seen steps exact v w prepared turn x left e line facts taken same at kept
     (subst (λ (y : View NodeState). ExecutesRight y.state.holdings.tables prepared
     (facts_in y.state.session.checked y.state.session.nodes y.state.session.rule y.state.holdings.records y.state.at.site turn)
     y.state.holdings.parts (put_in y.face.me y.state.at.own (map numbers_of y.face.got)) x) same
-    (subst (λ (f : LoopFacts). ExecutesRight v.state.holdings.tables prepared f v.state.holdings.parts (put_in v.face.me v.state.at.own (map numbers_of v.face.got)) x) facts_are
+    (subst (λ (f : LoopFacts). ExecutesRight v.state.holdings.tables prepared f v.state.holdings.parts
+    (put_in v.face.me v.state.at.own (map numbers_of v.face.got)) x) facts_are
     (subst (λ (l : List (List ℤ)). ExecutesRight v.state.holdings.tables prepared facts v.state.holdings.parts l x) taken_is executes)))
-    (subst (λ (y : View NodeState). EntersScatter y.state.session y.face.me y.state.at.execution y.state.at.site prepared x left e) same enters))
+    (subst (λ (y : View NodeState). EntersScatter y.state.session y.face.me y.state.at.execution y.state.at.site prepared x left e) same
+    enters))

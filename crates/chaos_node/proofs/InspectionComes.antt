@@ -1,11 +1,12 @@
 -- At the end of a phase of an inspection: what its letters made of it.
-use Rattle.std.specs.Prelude.{◌≡◌, refl, ℕ, suc, ℤ, ◌+◌, ◌<◌, true, if◌then◌else◌, List, [], ◌∷◌, ◌++◌, drop, length, map, reverse, is_some, Option, Some, None, IfSome}
+use Rattle.std.specs.Prelude.{◌≡◌, refl, ℕ, suc, ℤ, ◌+◌, ◌<◌, true, if◌then◌else◌, List, [], ◌∷◌, ◌++◌, drop, length, map, reverse, is_some}
+use Rattle.std.specs.Prelude.{Option, Some, None, IfSome}
 use Rattle.std.specs.List.{AllByRecursion, enumerate_from}
 use Rattle.std.specs.Option.{option_and_then}
 use Rattle.std.proofs.Common.{ap, sym, ◌∙◌, subst}
-use Rattle.std.proofs.lemmas.Grind.{reverse_onto}
 use Rattle.bsp_core.specs.Views.{Face, View, ready}
-use Rattle.chaos_facts.specs.FactsLaws.{IsStepIn, StepsAreIn}
+use Rattle.fd_program.specs.ListLaws.{all_split, all_reversed}
+use Rattle.fd_program.specs.StepLaws.{IsStepIn, StepsAreIn}
 use Rattle.chaos_hash.specs.Stamps.{Stamps}
 use Rattle.fd_program.specs.Checks.{IsChecked}
 use Rattle.fd_program.specs.Layouts.{layout_at, loop_at, owners_at, store_at}
@@ -15,21 +16,22 @@ use Rattle.fd_program.specs.declared.trace.LoopTurn.{LoopTurn}
 use Rattle.fd_program.specs.declared.trace.Step.{Step}
 use Rattle.fd_program.specs.declared.trace.Step.TheVariants.{Forall}
 use Rattle.fd_words.specs.declared.place.Offence.{Offence}
-use Rattle.chaos_phases.specs.LoopLetters.{owed_in}
-use Rattle.chaos_phases.specs.declared.loop_phase.LoopPhase.{LoopPhase}
-use Rattle.chaos_phases.specs.declared.loop_phase.LoopPhase.TheVariants as phase
+use Rattle.plan_loop.specs.LoopLetters.{owed_in}
+use Rattle.plan_loop.specs.declared.loop_phase.LoopPhase.{LoopPhase}
+use Rattle.plan_loop.specs.declared.loop_phase.LoopPhase.TheVariants as phase
 use Rattle.chaos_inspect.specs.Inspecting.{IsInspecting, IsNext, IsOwed, IsVoted, offence_in, phase_after, phase_of}
 use Rattle.chaos_inspect.specs.declared.inspection.Inspection.{Inspection}
 use Rattle.chaos_inspect.specs.declared.stage.Stage.{Stage as InspectStage}
-use Rattle.chaos_inspect.specs.declared.stage.Stage.TheVariants.{Seeking, Telling, Fetching, Answering, Voting, Refused as Stopped, Homing, Entered as Put, Ready}
-use Rattle.chaos_prepare.specs.Tables.{HasPlaces, KeepsOtherStamps}
-use Rattle.chaos_run.specs.Phases.{Phase, numbers_at}
-use Rattle.chaos_run.specs.Rows.{RunPlan, face_left, node_row, phases_in, scene_in}
-use Rattle.chaos_run.specs.declared.stage.Stage.{Stage}
-use Rattle.chaos_run.specs.declared.stage.Stage.TheVariants as stage
-use Rattle.chaos_places.specs.LetterLaws.{letters_come_in, own_list_is_put_in}
-use Rattle.chaos_places.specs.Letters.{numbers_of, put_in}
-use Rattle.chaos_places.specs.Places.{StandsBefore, present_phase}
+use Rattle.chaos_inspect.specs.declared.stage.Stage.TheVariants.{Seeking, Telling, Fetching, Answering, Voting, Refused as Stopped, Homing}
+use Rattle.chaos_inspect.specs.declared.stage.Stage.TheVariants.{Entered as Put, Ready}
+use Rattle.plan_tables.specs.Tables.{HasPlaces, KeepsOtherStamps}
+use Rattle.plan_run.specs.Phases.{Phase, numbers_at}
+use Rattle.plan_run.specs.Rows.{RunPlan, face_left, node_row, phases_in, scene_in}
+use Rattle.plan_run.specs.declared.stage.Stage.{Stage}
+use Rattle.plan_run.specs.declared.stage.Stage.TheVariants as stage
+use Rattle.plan_walk.specs.LetterLaws.{letters_come_in, own_list_is_put_in}
+use Rattle.plan_walk.specs.Letters.{numbers_of, put_in}
+use Rattle.plan_walk.specs.Places.{StandsBefore, present_phase}
 use Rattle.chaos_entering.specs.Behind.{stages_behind}
 use Rattle.chaos_node.specs.Changing.{ChangesRight}
 use Rattle.chaos_node.specs.declared.change.Change.{Change}
@@ -41,22 +43,13 @@ use Rattle.chaos_node.proofs.InspectionSteps.{inspection_is_early, some_left}
 
 -- ---- steps
 
-all_parts : {A : Type 0} (P : A → Type 0) (xs ys : List A) → AllByRecursion P (xs ++ ys) → AllByRecursion P xs × AllByRecursion P ys
-all_parts P [] ys h = (tt, h)
-all_parts P (x ∷ xs) ys h = let rest = all_parts P xs ys h.1 in ((h.0, rest.0), rest.1)
-
-all_turned : {A : Type 0} (P : A → Type 0) (xs : List A) → AllByRecursion P (reverse xs) → AllByRecursion P xs
-all_turned P [] h = tt
-all_turned P (x ∷ xs) h =
-    let parts = all_parts P (reverse xs) (x ∷ []) (subst (AllByRecursion P) (reverse_onto xs x []) h) in
-    (parts.1.0, all_turned P xs parts.0)
-
 -- the steps behind and before a node are the program's
 pub steps_at : StepsAreIn → (plan : RunPlan) (past rest : List Step) → IsChecked plan.checked → StandsBefore plan past rest
     → AllByRecursion (IsStepIn plan.checked) past × AllByRecursion (IsStepIn plan.checked) rest
 steps_at steps plan past rest known h =
-    let parts = all_parts (IsStepIn plan.checked) (reverse past) rest (subst (AllByRecursion (IsStepIn plan.checked)) (sym h.trace) (steps plan.checked known)) in
-    (all_turned (IsStepIn plan.checked) past parts.0, parts.1)
+    let parts = all_split (IsStepIn plan.checked) (reverse past) rest (subst (AllByRecursion (IsStepIn plan.checked)) (sym h.trace)
+    (steps plan.checked known)) in
+    (all_reversed (IsStepIn plan.checked) past parts.0, parts.1)
 
 -- ---- the plan's layouts
 
@@ -70,7 +63,8 @@ no_offence : (o : Option Offence) → o ≡ None → is_some o ≡ true → ⊥
 no_offence None e h = cc
 no_offence (Some x) e h = cc
 
-voted : (before after : InspectStage) (l : LoopPhase) → IsVoted before after → phase_of before ≡ Some l → is_some (offence_in after) ≡ true → l ≡ phase.Vote
+voted : (before after : InspectStage) (l : LoopPhase) → IsVoted before after → phase_of before ≡ Some l → is_some (offence_in after)
+    ≡ true → l ≡ phase.Vote
 voted (Seeking asking) after l h e told = absurd (no_offence (offence_in after) h told)
 voted (Telling asking asked) after l h e told = absurd (no_offence (offence_in after) h told)
 voted Fetching after l h e told = absurd (no_offence (offence_in after) h told)
@@ -87,21 +81,26 @@ next_is f g before after l h same e =
     h ∙ ap (λ (o : Option LoopPhase). if is_some (offence_in after) then None else option_and_then (phase_after f) o) e
     ∙ ap (λ (x : LoopFacts). if is_some (offence_in after) then None else phase_after x l) same
 
-owed_now : (x : Inspection) (owners : List (List ℕ)) (store : List (List ℤ)) (taken : List (List ℤ)) (l : LoopPhase) → phase_of x.stage ≡ Some l
+owed_now : (x : Inspection) (owners : List (List ℕ)) (store : List (List ℤ)) (taken : List (List ℤ)) (l : LoopPhase)
+    → phase_of x.stage ≡ Some l
     → taken ≡ owed_in x.facts owners store l x.me → IsOwed x owners store taken
-owed_now x owners store taken l e h = subst (λ (o : Option LoopPhase). IfSome o (λ l. taken ≡ owed_in x.facts owners store l x.me)) (sym e) h
+owed_now x owners store taken l e h = subst (λ (o : Option LoopPhase). IfSome o (λ l. taken ≡ owed_in x.facts owners store l x.me))
+    (sym e) h
 
 -- what an inspection becomes, where its letters are those that are due
 abbrev pub Becomes : Inspection → Inspection → List Stamps → List Stamps → List (List ℤ) → Type 0
 Becomes x i before after taken =
-    (owners : List (List ℕ)) (store : List (List ℤ)) → IsInspecting x owners store before → IsOwed x owners store taken → IsInspecting i owners store after
+    (owners : List (List ℕ)) (store : List (List ℤ)) → IsInspecting x owners store before → IsOwed x owners store taken
+    → IsInspecting i owners store after
 
 abbrev pub StaysPlaced : Inspection → List Stamps → List Stamps → List (List ℤ) → Type 0
 StaysPlaced x before after taken =
-    (owners : List (List ℕ)) (store : List (List ℤ)) → IsInspecting x owners store before → IsOwed x owners store taken → HasPlaces owners before → HasPlaces owners after
+    (owners : List (List ℕ)) (store : List (List ℤ)) → IsInspecting x owners store before → IsOwed x owners store taken
+    → HasPlaces owners before → HasPlaces owners after
 
 -- the letters that a node has taken, with its own list put in, are those that it is owed
-taken_are_owed : (plan : RunPlan) (t p : ℕ) (v : View NodeState) (past rest : List Step) (site : ℕ) (turn : LoopTurn) (l : LoopPhase) (stages : List Stage)
+taken_are_owed : (plan : RunPlan) (t p : ℕ) (v : View NodeState) (past rest : List Step) (site : ℕ) (turn : LoopTurn) (l : LoopPhase)
+    (stages : List Stage)
     (taken : List (List ℤ)) (later : List Phase) → p < plan.nodes → v.face ≡ ready (node_row plan t) p
     → drop t (phases_in plan) ≡ present_phase plan past (Forall site turn) rest (stage.InLoop l) stages ∷ later
     → v.state.at.own ≡ numbers_at (scene_in plan) past (Forall site turn) (stage.InLoop l) p p
@@ -117,18 +116,24 @@ taken_are_owed plan t p v past rest site turn l stages taken later less row phas
 
 -- ---- an inspection at the end of a phase
 
-pub phase_ends : (v : View NodeState) (x i : Inspection) (tables : List Stamps) (taken : List (List ℤ)) → StepsAreIn → v.state.at.activity ≡ Inspecting x
-    → taken ≡ put_in v.face.me v.state.at.own (map numbers_of v.face.got) → i.facts ≡ x.facts → i.me ≡ x.me → IsNext x.facts x.stage i.stage → IsVoted x.stage i.stage
-    → Becomes x i v.state.holdings.tables tables taken → StaysPlaced x v.state.holdings.tables tables taken → KeepsOtherStamps x.facts v.state.holdings.tables tables
+pub phase_ends : (v : View NodeState) (x i : Inspection) (tables : List Stamps) (taken : List (List ℤ)) → StepsAreIn
+    → v.state.at.activity ≡ Inspecting x
+    → taken ≡ put_in v.face.me v.state.at.own (map numbers_of v.face.got) → i.facts ≡ x.facts → i.me ≡ x.me
+    → IsNext x.facts x.stage i.stage → IsVoted x.stage i.stage
+    → Becomes x i v.state.holdings.tables tables taken → StaysPlaced x v.state.holdings.tables tables taken
+    → KeepsOtherStamps x.facts v.state.holdings.tables tables
     → length tables ≡ length v.state.holdings.tables → EndsPhase v i tables
 phase_ends v x i tables taken steps at is same_facts same_me next votes becomes placed others count plan t p run less row holds =
     let s = scene_in plan in
     let st = v.state in
-    let h : IsInspection plan (drop t (phases_in plan)) p st x = subst (λ a. IsPlace plan (drop t (phases_in plan)) p st a) at holds.place in
+    let h : IsInspection plan (drop t (phases_in plan)) p st x = subst (λ a. IsPlace plan (drop t (phases_in plan)) p st a) at holds.place
+    in
     let f = loop_at s h.past st.at.site h.turn in
     let some = some_left plan h.past st.at.site h.turn h.rest h.present (stages_behind f h.present) in
-    let owed_p = taken_are_owed plan t p v h.past h.rest st.at.site h.turn h.present (stages_behind f h.present) taken some.0 less row (h.in_step.phases_are ∙ some.1) h.in_step.own is in
-    let owed : IsOwed x (owners_at s h.past) (store_at s h.past) taken = owed_now x (owners_at s h.past) (store_at s h.past) taken h.present h.goes_on.phase_is
+    let owed_p = taken_are_owed plan t p v h.past h.rest st.at.site h.turn h.present (stages_behind f h.present) taken some.0 less row
+    (h.in_step.phases_are ∙ some.1) h.in_step.own is in
+    let owed : IsOwed x (owners_at s h.past) (store_at s h.past) taken = owed_now x (owners_at s h.past) (store_at s h.past) taken
+    h.present h.goes_on.phase_is
     (owed_p ∙ ap (λ (g : LoopFacts). owed_in g (owners_at s h.past) (store_at s h.past) h.present p) (sym h.goes_on.facts)
     ∙ ap (λ q. owed_in x.facts (owners_at s h.past) (store_at s h.past) h.present q) (sym h.goes_on.node)) in
     record {
@@ -157,13 +162,18 @@ phase_ends v x i tables taken steps at is same_facts same_me next votes becomes 
 pub tables_are_sized : (v : View NodeState) (x : Inspection) → v.state.at.activity ≡ Inspecting x
     → (plan : RunPlan) (t p : ℕ) → node_holds plan t p v.state → length v.state.holdings.tables ≡ length x.facts.layouts
 tables_are_sized v x at plan t p holds =
-    let h : IsInspection plan (drop t (phases_in plan)) p v.state x = subst (λ a. IsPlace plan (drop t (phases_in plan)) p v.state a) at holds.place in
-    h.in_step.knows.sized ∙ sym (layouts_count h.past 0 plan.checked.layouts) ∙ ap (λ (f : LoopFacts). length f.layouts) (sym h.goes_on.facts)
+    let h : IsInspection plan (drop t (phases_in plan)) p v.state x = subst (λ a. IsPlace plan (drop t (phases_in plan)) p v.state a) at
+    holds.place in
+    h.in_step.knows.sized ∙ sym (layouts_count h.past 0 plan.checked.layouts) ∙ ap (λ (f : LoopFacts). length f.layouts)
+    (sym h.goes_on.facts)
 
 -- so it is over copies of the inspection and of the tables
-pub copy_ends : (v : View NodeState) (x i here : Inspection) (before tables : List Stamps) (taken : List (List ℤ)) → StepsAreIn → v.state.at.activity ≡ Inspecting here
-    → x ≡ here → before ≡ v.state.holdings.tables → taken ≡ put_in v.face.me v.state.at.own (map numbers_of v.face.got) → i.facts ≡ x.facts → i.me ≡ x.me
-    → IsNext x.facts x.stage i.stage → IsVoted x.stage i.stage → Becomes x i before tables taken → StaysPlaced x before tables taken → KeepsOtherStamps x.facts before tables
+pub copy_ends : (v : View NodeState) (x i here : Inspection) (before tables : List Stamps) (taken : List (List ℤ)) → StepsAreIn
+    → v.state.at.activity ≡ Inspecting here
+    → x ≡ here → before ≡ v.state.holdings.tables → taken ≡ put_in v.face.me v.state.at.own (map numbers_of v.face.got)
+    → i.facts ≡ x.facts → i.me ≡ x.me
+    → IsNext x.facts x.stage i.stage → IsVoted x.stage i.stage → Becomes x i before tables taken → StaysPlaced x before tables taken
+    → KeepsOtherStamps x.facts before tables
     → length tables ≡ length before → EndsPhase v i tables
 copy_ends v x i here before tables taken steps at same kept is same_facts same_me next votes becomes placed others count =
     phase_ends v x i tables taken steps (at ∙ ap (λ y. Inspecting y) (sym same)) is same_facts same_me next votes

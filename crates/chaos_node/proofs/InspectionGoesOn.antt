@@ -9,14 +9,14 @@ use Rattle.fd_program.specs.declared.trace.LoopTurn.{LoopTurn}
 use Rattle.fd_program.specs.declared.trace.Step.{Step}
 use Rattle.fd_program.specs.declared.trace.Step.TheVariants.{Forall}
 use Rattle.fd_words.specs.declared.place.Offence.{Offence}
-use Rattle.chaos_phases.specs.declared.loop_phase.LoopPhase.{LoopPhase}
-use Rattle.chaos_phases.specs.declared.loop_phase.LoopPhase.TheVariants as phase
+use Rattle.plan_loop.specs.declared.loop_phase.LoopPhase.{LoopPhase}
+use Rattle.plan_loop.specs.declared.loop_phase.LoopPhase.TheVariants as phase
 use Rattle.chaos_inspect.specs.Inspecting.{offence_in, phase_after, phase_of}
 use Rattle.chaos_inspect.specs.declared.inspection.Inspection.{Inspection}
-use Rattle.chaos_run.specs.PreparedLaws.{OthersStayPrepared}
-use Rattle.chaos_run.specs.Rows.{IsRunPlan, RunPlan, phases_in, run_in, scene_in}
-use Rattle.chaos_run.specs.declared.stage.Stage.TheVariants as stage
-use Rattle.chaos_places.specs.Places.{left_in, present_phase, whole_left}
+use Rattle.plan_run.specs.PreparedLaws.{OthersStayPrepared}
+use Rattle.plan_run.specs.Rows.{IsRunPlan, RunPlan, phases_in, run_in, scene_in}
+use Rattle.plan_run.specs.declared.stage.Stage.TheVariants as stage
+use Rattle.plan_walk.specs.Places.{left_in, present_phase, whole_left}
 use Rattle.chaos_entering.specs.Behind.{stages_behind, stages_go_on}
 use Rattle.chaos_node.specs.Changing.{ChangesRight, changed}
 use Rattle.chaos_entering.specs.Coming.{IsComing, IsRight, KnowsLengths}
@@ -31,27 +31,33 @@ use Rattle.chaos_node.proofs.InspectionSteps.{inspection_is_early, is_past, keep
 -- what is known of a phase that is entered, for whatever plan
 abbrev pub EntersInspection : View NodeState → Inspection → List ℕ → ℕ → Entered → Type 0
 EntersInspection v i sizes left e =
-    (plan : RunPlan) (past rest : List Step) (turn : LoopTurn) (present : LoopPhase) (st : NodeState) → IsRunPlan plan → v.state.session ≡ session_in plan
+    (plan : RunPlan) (past rest : List Step) (turn : LoopTurn) (present : LoopPhase) (st : NodeState) → IsRunPlan plan
+    → v.state.session ≡ session_in plan
     → v.state.at.execution ≡ length past
-    → IsComing plan past (Forall v.state.at.site turn) rest (stage.InLoop present) (stages_behind (loop_at (scene_in plan) past v.state.at.site turn) present) v.face.me left st
+    → IsComing plan past (Forall v.state.at.site turn) rest (stage.InLoop present)
+    (stages_behind (loop_at (scene_in plan) past v.state.at.site turn) present) v.face.me left st
     → GoesOnInspecting plan past v.state.at.site turn present v.face.me st.holdings.tables i → v.state.holdings.parts ≡ st.holdings.parts
     → v.state.holdings.pages ≡ st.holdings.pages
     → KnowsLengths plan past (Forall v.state.at.site turn) (stage.InLoop present) v.face.me sizes
-    → IsRight plan (left_in plan past (Forall v.state.at.site turn) rest (stage.InLoop present ∷ stages_behind (loop_at (scene_in plan) past v.state.at.site turn) present)) v.face.me e st
+    → IsRight plan (left_in plan past (Forall v.state.at.site turn) rest
+    (stage.InLoop present ∷ stages_behind (loop_at (scene_in plan) past v.state.at.site turn) present)) v.face.me e st
 
 -- what it changes
 abbrev pub goes_on_with : List Stamps → Entered → Change
 goes_on_with tables e = record { effect = Inspects tables None; line = []; entered = e }
 
 -- where there is no offence what follows is the next phase
-pub next_phase_is : (f : LoopFacts) (o : Option Offence) (here : Option LoopPhase) (l : LoopPhase) → o ≡ None → here ≡ (if is_some o then None else phase_after f l) → here ≡ phase_after f l
+pub next_phase_is : (f : LoopFacts) (o : Option Offence) (here : Option LoopPhase) (l : LoopPhase) → o ≡ None
+    → here ≡ (if is_some o then None else phase_after f l) → here ≡ phase_after f l
 next_phase_is f None here l none e = e
 next_phase_is f (Some x) here l none e = cc
 
 -- what a node knows as the next phase begins
-knows_next : (plan : RunPlan) (t p : ℕ) (st : NodeState) (i : Inspection) (tables : List Stamps) (e : Entered) (next : LoopPhase) → OthersStayPrepared → IsRunPlan plan
+knows_next : (plan : RunPlan) (t p : ℕ) (st : NodeState) (i : Inspection) (tables : List Stamps) (e : Entered) (next : LoopPhase)
+    → OthersStayPrepared → IsRunPlan plan
     → (h : HasInspected plan t p st i tables) → phase_of i.stage ≡ Some next
-    → Knows (scene_in plan) (run_in plan) h.past (Forall st.at.site h.turn) (stage.InLoop next) p (held_of (changed st (goes_on_with tables e)))
+    → Knows (scene_in plan) (run_in plan) h.past (Forall st.at.site h.turn) (stage.InLoop next) p
+    (held_of (changed st (goes_on_with tables e)))
 knows_next plan t p st i tables e next others is h there =
     let s = scene_in plan in
     let k = h.in_step.knows in
@@ -64,15 +70,18 @@ knows_next plan t p st i tables e next others is h there =
         counts = k.stands.counts;
         places = h.places;
       };
-      keeps = keeps_from_phase s (run_in plan) h.past st.at.site h.turn h.present next p st.holdings.tables tables st.holdings.kept h.inspects h.early
-          (inspection_is_early i.stage next there) (others s h.past st.at.site h.turn st.holdings.tables tables is.checked h.known h.others) k.keeps;
+      keeps = keeps_from_phase s (run_in plan) h.past st.at.site h.turn h.present next p st.holdings.tables tables st.holdings.kept
+          h.inspects h.early
+          (inspection_is_early i.stage next there) (others s h.past st.at.site h.turn st.holdings.tables tables is.checked h.known
+          h.others) k.keeps;
       inspected = k.inspected;
       text = append-nil st.text ∙ k.text;
       refused = k.refused;
       sized = h.sized;
     }
 
-pub inspection_goes_on : (v : View NodeState) (i : Inspection) (tables : List Stamps) (e : Entered) (left : ℕ) → OthersStayPrepared → EndsPhase v i tables
+pub inspection_goes_on : (v : View NodeState) (i : Inspection) (tables : List Stamps) (e : Entered) (left : ℕ) → OthersStayPrepared
+    → EndsPhase v i tables
     → offence_in i.stage ≡ None → is_some (phase_of i.stage) ≡ true → left + 1 ≡ v.face.left → EntersInspection v i v.state.at.sizes left e
     → ChangesRight v (goes_on_with tables e)
 inspection_goes_on v i tables e left others ends passes goes falls enters plan t p is less row holds = by (phase_of i.stage) refl goes
@@ -80,7 +89,8 @@ inspection_goes_on v i tables e left others ends passes goes falls enters plan t
     h : HasInspected plan t p v.state i tables
     h = ends plan t p is less row holds
 
-    by : (o : Option LoopPhase) → phase_of i.stage ≡ o → is_some o ≡ true → IsRight plan (drop (t + 1) (phases_in plan)) p e (changed v.state (goes_on_with tables e))
+    by : (o : Option LoopPhase) → phase_of i.stage ≡ o → is_some o ≡ true → IsRight plan (drop (t + 1) (phases_in plan)) p e
+        (changed v.state (goes_on_with tables e))
     by None there some = cc
     by (Some next) there some =
         let s = scene_in plan in
@@ -98,7 +108,8 @@ inspection_goes_on v i tables e left others ends passes goes falls enters plan t
           session = h.session;
           node = less;
           places = h.in_step.places;
-          left_is = let z : whole_left plan h.past step h.rest (stages_behind f h.present) ≡ whole_left plan h.past step h.rest (stage.InLoop next ∷ stages_behind f next)
+          left_is = let z : whole_left plan h.past step h.rest (stages_behind f h.present) ≡ whole_left plan h.past step h.rest
+              (stage.InLoop next ∷ stages_behind f next)
               = ap (whole_left plan h.past step h.rest) stages in omega (arith, z, past.left, falls);
           knows = knows_next plan t p v.state i tables e next others is h there;
         } in

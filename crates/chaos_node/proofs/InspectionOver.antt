@@ -5,9 +5,8 @@ use Rattle.std.specs.Option.{option_and_then}
 use Rattle.std.proofs.Common.{ap, sym, ◌∙◌, subst, arith, append-nil}
 use Rattle.bsp_core.specs.Views.{View}
 use Rattle.chaos_dist.specs.Counting.{below}
-use Rattle.chaos_execute.specs.Ready.{IsStepOf}
+use Rattle.fd_program.specs.StepLaws.{IsStepOf, IsStepIn, StepsAreIn}
 use Rattle.chaos_executing.specs.InRun.{CanExecute}
-use Rattle.chaos_facts.specs.FactsLaws.{IsStepIn, StepsAreIn}
 use Rattle.chaos_hash.specs.Stamps.{Stamps}
 use Rattle.fd_program.specs.Layouts.{loop_at, owners_at, store_at}
 use Rattle.fd_program.specs.Loops.{offence_of}
@@ -22,23 +21,24 @@ use Rattle.fd_program.specs.declared.trace.Step.{Step}
 use Rattle.fd_program.specs.declared.trace.Step.TheVariants.{Distribute, Print, Forall}
 use Rattle.chaos_records.specs.Keeping.{record_in}
 use Rattle.chaos_records.specs.KeepingLaws.{RecordsAreExact}
-use Rattle.chaos_phases.specs.Fits.{Fits}
-use Rattle.chaos_phases.specs.declared.loop_phase.LoopPhase.{LoopPhase}
-use Rattle.chaos_phases.specs.declared.loop_phase.LoopPhase.TheVariants as phase
+use Rattle.plan_tables.specs.Fits.{Fits}
+use Rattle.plan_loop.specs.declared.loop_phase.LoopPhase.{LoopPhase}
+use Rattle.plan_loop.specs.declared.loop_phase.LoopPhase.TheVariants as phase
 use Rattle.chaos_inspect.specs.Inspecting.{HasNoOffence, InHand, IsInspecting, offence_in, phase_after, phase_of}
 use Rattle.chaos_inspect.specs.declared.inspection.Inspection.{Inspection}
 use Rattle.chaos_inspect.specs.declared.stage.Stage.{Stage as InspectStage}
-use Rattle.chaos_inspect.specs.declared.stage.Stage.TheVariants.{Seeking, Telling, Fetching, Answering, Voting, Refused as Stopped, Homing, Entered as Put, Ready}
-use Rattle.chaos_prepare.specs.Tables.{IsEntered, slots_of}
+use Rattle.chaos_inspect.specs.declared.stage.Stage.TheVariants.{Seeking, Telling, Fetching, Answering, Voting, Refused as Stopped, Homing}
+use Rattle.chaos_inspect.specs.declared.stage.Stage.TheVariants.{Entered as Put, Ready}
+use Rattle.plan_tables.specs.Tables.{IsEntered, slots_of}
 use Rattle.chaos_sched.specs.declared.prepared.Prepared.{Prepared}
-use Rattle.chaos_run.specs.Held.{EachLoop, IsInspected, KeepsInStep}
-use Rattle.chaos_run.specs.InspectionLaws.{inspection_ends}
-use Rattle.chaos_run.specs.PreparedLaws.{OthersStayPrepared}
-use Rattle.chaos_run.specs.Rows.{IsRunPlan, RunPlan, run_in, scene_in}
-use Rattle.chaos_run.specs.declared.kept.Kept.{Kept}
-use Rattle.chaos_run.specs.declared.stage.Stage.TheVariants as stage
-use Rattle.chaos_places.specs.Places.{left_in, present_phase, whole_left}
-use Rattle.chaos_places.specs.StepEnds.{run_starts}
+use Rattle.plan_run.specs.Held.{EachLoop, IsInspected, KeepsInStep}
+use Rattle.plan_run.specs.InspectionLaws.{inspection_ends}
+use Rattle.plan_run.specs.PreparedLaws.{OthersStayPrepared}
+use Rattle.plan_run.specs.Rows.{IsRunPlan, RunPlan, run_in, scene_in}
+use Rattle.plan_run.specs.declared.kept.Kept.{Kept}
+use Rattle.plan_run.specs.declared.stage.Stage.TheVariants as stage
+use Rattle.plan_walk.specs.Places.{left_in, present_phase, whole_left}
+use Rattle.plan_walk.specs.StepEnds.{run_starts}
 use Rattle.chaos_entering.specs.Behind.{stages_behind, stages_end}
 use Rattle.chaos_node.specs.Changing.{ChangesRight, changed}
 use Rattle.chaos_entering.specs.Coming.{IsComing, IsRight}
@@ -57,11 +57,14 @@ use Rattle.chaos_node.proofs.InspectionSteps.{is_past, left_passes}
 -- what is known of a gather that is entered, for whatever plan
 abbrev pub EntersGather : View NodeState → Prepared → ℕ → Entered → Type 0
 EntersGather v prepared left e =
-    (plan : RunPlan) (past rest : List Step) (turn : LoopTurn) (st : NodeState) → IsRunPlan plan → v.state.session ≡ session_in plan → v.state.at.execution ≡ length past
+    (plan : RunPlan) (past rest : List Step) (turn : LoopTurn) (st : NodeState) → IsRunPlan plan → v.state.session ≡ session_in plan
+    → v.state.at.execution ≡ length past
     → IsComing plan past (Forall v.state.at.site turn) rest (stage.InLoop phase.Gather) (stage.InLoop phase.Scatter ∷ []) v.face.me left st
     → is_empty_turn turn ≡ false → prepared_in st.holdings.kept v.state.at.site ≡ Some prepared
-    → CanExecute (scene_in plan) past v.state.at.site turn v.face.me st.holdings.tables prepared → v.state.holdings.parts ≡ st.holdings.parts
-    → IsRight plan (left_in plan past (Forall v.state.at.site turn) rest (stage.InLoop phase.Gather ∷ stage.InLoop phase.Scatter ∷ [])) v.face.me e st
+    → CanExecute (scene_in plan) past v.state.at.site turn v.face.me st.holdings.tables prepared
+    → v.state.holdings.parts ≡ st.holdings.parts
+    → IsRight plan (left_in plan past (Forall v.state.at.site turn) rest (stage.InLoop phase.Gather ∷ stage.InLoop phase.Scatter ∷ []))
+    v.face.me e st
 
 abbrev kept_of : LoopRecord → Prepared → Kept
 kept_of latest prepared = record { latest = latest; prepared = Some prepared }
@@ -87,7 +90,8 @@ length_range : (low k : ℕ) → length (range_with_len low k) ≡ k
 length_range low zero = refl
 length_range low (suc k) = ap suc (length_range (low + 1) k)
 
-kept_there : (c : Checked) (P : ℕ → Option Kept → Type 0) (kept : List (Option Kept)) (site : ℕ) (latest : LoopRecord) (x : Prepared) → EachLoop c P kept → site < length c.sites
+kept_there : (c : Checked) (P : ℕ → Option Kept → Type 0) (kept : List (Option Kept)) (site : ℕ) (latest : LoopRecord) (x : Prepared)
+    → EachLoop c P kept → site < length c.sites
     → prepared_in (slice_set kept site (Some (kept_of latest x))) site ≡ Some x
 kept_there c P kept site latest x each less =
     let size = zip_length P (below (length c.sites)) kept each ∙ length_range 0 (length c.sites) in
@@ -95,7 +99,8 @@ kept_there c P kept site latest x each less =
 
 -- ---- the execution
 
-no_offence_ready : (x : Inspection) (owners : List (List ℕ)) (store : List (List ℤ)) (tables : List Stamps) (s : InspectStage) → phase_of s ≡ None → offence_in s ≡ None
+no_offence_ready : (x : Inspection) (owners : List (List ℕ)) (store : List (List ℤ)) (tables : List Stamps) (s : InspectStage)
+    → phase_of s ≡ None → offence_in s ≡ None
     → InHand x owners store tables s → HasNoOffence x store
 no_offence_ready x owners store tables (Seeking asking) e none h = cc
 no_offence_ready x owners store tables (Telling asking asked) e none h = cc
@@ -122,8 +127,10 @@ IsMade i prepared =
     (owners : List (List ℕ)) (store : List (List ℤ)) (tables : List Stamps) → IsInspecting i owners store tables
     → Fits i.facts owners store (slots_of i.facts tables) i.me prepared × IsEntered i.facts owners store i.me tables
 
-inspected_now : (i : Inspection) (f : LoopFacts) (owners : List (List ℕ)) (store : List (List ℤ)) (p : ℕ) (tables : List Stamps) (prepared : Prepared) → i.facts ≡ f → i.me ≡ p
-    → Fits i.facts owners store (slots_of i.facts tables) i.me prepared × IsEntered i.facts owners store i.me tables → IsInspected f owners store p tables prepared
+inspected_now : (i : Inspection) (f : LoopFacts) (owners : List (List ℕ)) (store : List (List ℤ)) (p : ℕ) (tables : List Stamps)
+    (prepared : Prepared) → i.facts ≡ f → i.me ≡ p
+    → Fits i.facts owners store (slots_of i.facts tables) i.me prepared × IsEntered i.facts owners store i.me tables
+    → IsInspected f owners store p tables prepared
 inspected_now i f owners store p tables prepared same me h =
     subst (λ (g : LoopFacts). IsInspected g owners store p tables prepared) same
     (subst (λ q. IsInspected i.facts owners store q tables prepared) me (record { fits = h.0; entered = h.1 }))
@@ -134,11 +141,13 @@ never_vote f l e vote = none (sym (ap (phase_after f) vote) ∙ e)
     none : {x : LoopPhase} → Some x ≡ None → ⊥
     none e = cc
 
-pub inspection_is_over : (v : View NodeState) (i : Inspection) (tables : List Stamps) (latest : LoopRecord) (prepared : Prepared) (e : Entered) (left : ℕ)
+pub inspection_is_over : (v : View NodeState) (i : Inspection) (tables : List Stamps) (latest : LoopRecord) (prepared : Prepared)
+    (e : Entered) (left : ℕ)
     → OthersStayPrepared → RecordsAreExact → StepsAreIn → EndsPhase v i tables → offence_in i.stage ≡ None → phase_of i.stage ≡ None
     → latest ≡ record_in v.state.holdings.records v.state.session.checked v.state.at.site i.facts.turn → IsMade i prepared
     → left + 1 ≡ v.face.left → EntersGather v prepared left e → ChangesRight v (keeps_with tables latest prepared e)
-inspection_is_over v i tables latest prepared e left others exact steps ends passes over noted made falls enters plan t p is less row holds =
+inspection_is_over v i tables latest prepared e left others exact steps ends passes over noted made falls enters plan t p is less row
+    holds =
     let h : HasInspected plan t p v.state i tables = ends plan t p is less row holds in
     let s = scene_in plan in
     let site = v.state.at.site in
@@ -148,12 +157,15 @@ inspection_is_over v i tables latest prepared e left others exact steps ends pas
     let store = store_at s h.past in
     let st = changed v.state (keeps_with tables latest prepared e) in
     let k = h.in_step.knows in
-    let after : phase_after f h.present ≡ None = sym (next_phase_is f (offence_in i.stage) (phase_of i.stage) h.present passes h.next) ∙ over in
+    let after : phase_after f h.present ≡ None = sym (next_phase_is f (offence_in i.stage) (phase_of i.stage) h.present passes h.next)
+    ∙ over in
     let stages = stages_end f h.present after in
-    let left_is = left_passes plan h.past site h.turn h.rest h.present (stages_behind f h.present) h.in_step.places (λ vote. absurd (never_vote f h.present after vote)) in
+    let left_is = left_passes plan h.past site h.turn h.rest h.present (stages_behind f h.present) h.in_step.places
+    (λ vote. absurd (never_vote f h.present after vote)) in
     let past = is_past plan t p (present_phase plan h.past step h.rest (stage.InLoop h.present) (stages_behind f h.present))
     (left_in plan h.past step h.rest (stages_behind f h.present)) v.face row (h.in_step.phases_are ∙ left_is) in
-    let inspected : IsInspected f owners store p tables prepared = inspected_now i f owners store p tables prepared h.facts h.node (made owners store tables h.inspecting) in
+    let inspected : IsInspected f owners store p tables prepared = inspected_now i f owners store p tables prepared h.facts h.node
+    (made owners store tables h.inspecting) in
     let record_is : latest ≡ record_at plan.checked h.past site h.turn =
     noted ∙ ap (λ (x : Session). record_in v.state.holdings.records x.checked site i.facts.turn) h.session
     ∙ ap (λ (g : LoopFacts). record_in v.state.holdings.records plan.checked site g.turn) h.facts
@@ -161,12 +173,14 @@ inspection_is_over v i tables latest prepared e left others exact steps ends pas
     let stay = others s h.past site h.turn v.state.holdings.tables tables is.checked h.known h.others in
     let keeps = subst (λ r. EachLoop plan.checked (KeepsInStep s (run_in plan) h.past step (stage.InLoop phase.Gather) p tables)
     (slice_set v.state.holdings.kept site (Some (kept_of r prepared)))) (sym record_is)
-    (inspection_ends s (run_in plan) h.past site h.turn h.present p v.state.holdings.tables tables v.state.holdings.kept prepared h.inspects h.early stay inspected k.keeps) in
+    (inspection_ends s (run_in plan) h.past site h.turn h.present p v.state.holdings.tables tables v.state.holdings.kept prepared
+    h.inspects h.early stay inspected k.keeps) in
     let coming : IsComing plan h.past step h.rest (stage.InLoop phase.Gather) (stage.InLoop phase.Scatter ∷ []) p left st = record {
       session = h.session;
       node = less;
       places = h.in_step.places;
-      left_is = let z : whole_left plan h.past step h.rest (stages_behind f h.present) ≡ whole_left plan h.past step h.rest (stage.InLoop phase.Gather ∷ stage.InLoop phase.Scatter ∷ [])
+      left_is = let z : whole_left plan h.past step h.rest (stages_behind f h.present) ≡ whole_left plan h.past step h.rest
+          (stage.InLoop phase.Gather ∷ stage.InLoop phase.Scatter ∷ [])
           = ap (whole_left plan h.past step h.rest) stages in omega (arith, z, past.left, falls);
       knows = record {
         stands = record {
@@ -191,13 +205,16 @@ inspection_is_over v i tables latest prepared e left others exact steps ends pas
       history = h.in_step.places.history;
       steps = steps_of plan.checked h.past (steps_at steps plan h.past (step ∷ h.rest) is.checked h.in_step.places).0;
       known = h.known;
-      sound = ap (λ (g : LoopFacts). offence_of g.arrays g.site g.turn store) (sym h.facts) ∙ no_offence_ready i owners store tables i.stage over passes h.inspecting.hand;
+      sound = ap (λ (g : LoopFacts). offence_of g.arrays g.site g.turn store) (sym h.facts)
+          ∙ no_offence_ready i owners store tables i.stage over passes h.inspecting.hand;
       inspected = inspected;
     } in
-    let there = kept_there plan.checked (KeepsInStep s (run_in plan) h.past step (stage.InLoop h.present) p v.state.holdings.tables) v.state.holdings.kept site latest prepared k.keeps h.known in
+    let there = kept_there plan.checked (KeepsInStep s (run_in plan) h.past step (stage.InLoop h.present) p v.state.holdings.tables)
+    v.state.holdings.kept site latest prepared k.keeps h.known in
     let me : p ≡ v.face.me = sym past.me in
     subst (λ phases. IsRight plan phases p e st) (sym (past.behind ∙ ap (left_in plan h.past step h.rest) stages))
-    (subst (λ q. IsRight plan (left_in plan h.past step h.rest (stage.InLoop phase.Gather ∷ stage.InLoop phase.Scatter ∷ [])) q e st) past.me
+    (subst (λ q. IsRight plan (left_in plan h.past step h.rest (stage.InLoop phase.Gather ∷ stage.InLoop phase.Scatter ∷ [])) q e st)
+    past.me
     (enters plan h.past h.rest h.turn st is h.session h.in_step.execution
     (subst (λ q. IsComing plan h.past step h.rest (stage.InLoop phase.Gather) (stage.InLoop phase.Scatter ∷ []) q left st) me coming)
     h.some there (subst (λ q. CanExecute s h.past site h.turn q tables prepared) me can) refl))

@@ -9,7 +9,7 @@ use Rattle.chaos_holdings.specs.Keeping.{prepared_in}
 use Rattle.chaos_node.specs.Changing.{CanBeMade}
 use Rattle.chaos_node.specs.Printed.{work_left}
 use Rattle.chaos_node.specs.declared.change.Change.{Change}
-use Rattle.chaos_run.specs.declared.kept.Kept.{Kept}
+use Rattle.plan_run.specs.declared.kept.Kept.{Kept}
 use Rattle.chaos_sched.specs.declared.prepared.Prepared.{Prepared}
 
 -- where work is due, a phase is left
@@ -30,15 +30,18 @@ below_next : (e k left : ℕ) → e ≤ k → k + 1 ≡ left → e < left
 below_next e k left less is = omega (arith, less, is)
 
 -- a change whose phase can stand can be made
-pub made_by : (v w : View NodeState) (me k : ℕ) (change : Change) → v ≡ w → me ≡ w.face.me → k + 1 ≡ w.face.left → CanStand me v.face.count change.entered
+pub made_by : (v w : View NodeState) (me k : ℕ) (change : Change) → v ≡ w → me ≡ w.face.me → k + 1 ≡ w.face.left
+    → CanStand me v.face.count change.entered
     → change.entered.left ≤ k → CanBeMade w change
 made_by v w me k change same node behind stands less = record {
-  stands = subst (λ n. CanStand w.face.me n change.entered) (ap (λ (x : View NodeState). x.face.count) same) (subst (λ n. CanStand n v.face.count change.entered) node stands);
+  stands = subst (λ n. CanStand w.face.me n change.entered) (ap (λ (x : View NodeState). x.face.count) same)
+      (subst (λ n. CanStand n v.face.count change.entered) node stands);
   falls = below_next change.entered.left k w.face.left less behind;
 }
 
 -- the end can be made
-pub made_end : (v : View NodeState) (change : Change) → next_of v.face ≡ Work → CanStand v.face.me v.face.count change.entered → change.entered.left ≡ 0 → CanBeMade v change
+pub made_end : (v : View NodeState) (change : Change) → next_of v.face ≡ Work → CanStand v.face.me v.face.count change.entered
+    → change.entered.left ≡ 0 → CanBeMade v change
 made_end v change work stands none =
     let some = some_left v work in
     record {
@@ -47,7 +50,8 @@ made_end v change work stands none =
     }
 
 -- what is kept of the FORALL of the phase
-pub kept_same : (v w : View NodeState) (slice : List (Option Kept)) (o : Option Prepared) → v ≡ w → slice ≡ v.state.holdings.kept → o ≡ prepared_in slice v.state.at.site
+pub kept_same : (v w : View NodeState) (slice : List (Option Kept)) (o : Option Prepared) → v ≡ w → slice ≡ v.state.holdings.kept
+    → o ≡ prepared_in slice v.state.at.site
     → prepared_in w.state.holdings.kept w.state.at.site ≡ o
 kept_same v w slice o same is found =
     subst (λ (x : View NodeState). prepared_in x.state.holdings.kept x.state.at.site ≡ o) same

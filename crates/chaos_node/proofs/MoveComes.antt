@@ -9,14 +9,14 @@ use Rattle.chaos_moving.specs.IsMoving.{IsMoving, taken_in}
 use Rattle.chaos_moving.specs.Stages.{left_in as stages_left, stage_in}
 use Rattle.chaos_moving.specs.declared.moving.Moving.{Moving}
 use Rattle.chaos_moving.specs.declared.share.Share.{Share}
-use Rattle.chaos_run.specs.Held.{owed_at}
-use Rattle.chaos_run.specs.Phases.{numbers_at}
-use Rattle.chaos_run.specs.Rows.{face_left, phases_in, scene_in}
-use Rattle.chaos_run.specs.declared.stage.Stage.{Stage}
-use Rattle.chaos_places.specs.LetterLaws.{letters_come_in, own_list_is_put_in}
-use Rattle.chaos_places.specs.Letters.{numbers_of, put_in}
-use Rattle.chaos_places.specs.PhaseBegins.{phases_follow}
-use Rattle.chaos_places.specs.Places.{left_in, present_phase}
+use Rattle.plan_run.specs.Held.{owed_at}
+use Rattle.plan_run.specs.Phases.{numbers_at}
+use Rattle.plan_run.specs.Rows.{face_left, phases_in, scene_in}
+use Rattle.plan_run.specs.declared.stage.Stage.{Stage}
+use Rattle.plan_walk.specs.LetterLaws.{letters_come_in, own_list_is_put_in}
+use Rattle.plan_walk.specs.Letters.{numbers_of, put_in}
+use Rattle.plan_walk.specs.PhaseBegins.{phases_follow}
+use Rattle.plan_walk.specs.Places.{left_in, present_phase}
 use Rattle.chaos_entering.specs.Standing.{IsInStep, IsMove, IsPlace}
 use Rattle.chaos_entering.specs.State.{NodeState}
 use Rattle.chaos_entering.specs.declared.activity.Activity.TheVariants.{Moving as Moves}
@@ -83,12 +83,15 @@ stage_ends v x m taken at is share form left goes plan t p run less row holds =
 pub copy_ends : (v : View NodeState) (x m here : Moving) (taken : List (List ℤ)) → v.state.at.activity ≡ Moves here → x ≡ here
     → taken ≡ put_in v.face.me v.state.at.own (map numbers_of v.face.got) → m.share ≡ x.share → m.form ≡ x.form
     → stages_left m.stage ≡ drop 1 (stages_left x.stage) → MovesOn x m taken → EndsStage v m
-copy_ends v x m here taken at same is share form left goes = stage_ends v x m taken (at ∙ ap (λ y. Moves y) (sym same)) is share form left goes
+copy_ends v x m here taken at same is share form left goes = stage_ends v x m taken (at ∙ ap (λ y. Moves y) (sym same)) is share form left
+    goes
 
 -- a move has a stage
-pub stage_is_there : (v : View NodeState) (x : Moving) (change : Change) → v.state.at.activity ≡ Moves x → stage_in x.stage ≡ None → ChangesRight v change
+pub stage_is_there : (v : View NodeState) (x : Moving) (change : Change) → v.state.at.activity ≡ Moves x → stage_in x.stage ≡ None
+    → ChangesRight v change
 stage_is_there v x change at none plan t p run less row holds =
-    let h : IsMove plan (drop t (phases_in plan)) p v.state x = subst (λ a. IsPlace plan (drop t (phases_in plan)) p v.state a) at holds.place in
+    let h : IsMove plan (drop t (phases_in plan)) p v.state x = subst (λ a. IsPlace plan (drop t (phases_in plan)) p v.state a) at
+    holds.place in
     absurd (none_some h.stage (sym none ∙ ap (λ l. slice_get l 0) h.goes_on.left))
   where
     none_some : (y : Stage) → None ≡ Some y → ⊥

@@ -7,11 +7,11 @@ use Rattle.fd_program.specs.declared.trace.Step.{Step}
 use Rattle.fd_program.specs.declared.trace.Step.TheVariants.{Distribute}
 use Rattle.chaos_moving.specs.Stages.{left_in as stages_left, stage_in}
 use Rattle.chaos_moving.specs.declared.moving.Moving.{Moving}
-use Rattle.chaos_run.specs.Held.{Held}
-use Rattle.chaos_run.specs.Rows.{IsRunPlan, RunPlan, phases_in, run_in, scene_in}
-use Rattle.chaos_run.specs.declared.stage.Stage.{Stage}
-use Rattle.chaos_places.specs.PhaseBegins.{phases_follow}
-use Rattle.chaos_places.specs.Places.{left_in, present_phase, whole_left}
+use Rattle.plan_run.specs.Held.{Held}
+use Rattle.plan_run.specs.Rows.{IsRunPlan, RunPlan, phases_in, run_in, scene_in}
+use Rattle.plan_run.specs.declared.stage.Stage.{Stage}
+use Rattle.plan_walk.specs.PhaseBegins.{phases_follow}
+use Rattle.plan_walk.specs.Places.{left_in, present_phase, whole_left}
 use Rattle.chaos_entering.specs.Coming.{IsComing, IsRight, KnowsLengths}
 use Rattle.chaos_entering.specs.Standing.{GoesOnMoving, Knows, session_in}
 use Rattle.chaos_entering.specs.State.{NodeState, held_of}
@@ -26,7 +26,8 @@ use Rattle.chaos_node.proofs.MoveSteps.{knows_goes_on, move_lengths, moving_is_p
 -- what is known of a stage that is entered, for whatever plan
 abbrev pub EntersMove : View NodeState → Moving → List ℕ → ℕ → Entered → Type 0
 EntersMove v m sizes left e =
-    (plan : RunPlan) (past rest : List Step) (form : StepForm) (now : Stage) (more : List Stage) (st : NodeState) → IsRunPlan plan → v.state.session ≡ session_in plan
+    (plan : RunPlan) (past rest : List Step) (form : StepForm) (now : Stage) (more : List Stage) (st : NodeState) → IsRunPlan plan
+    → v.state.session ≡ session_in plan
     → v.state.at.execution ≡ length past → IsComing plan past (Distribute m.share.decomposition form) rest now more v.face.me left st
     → GoesOnMoving plan past m.share.decomposition form now more v.face.me m
     → KnowsLengths plan past (Distribute m.share.decomposition form) now v.face.me sizes
@@ -40,14 +41,16 @@ only_enters e = record { effect = Nothing; line = []; entered = e }
 abbrev pub with_text : Held → List ℕ → Held
 with_text v text = record v { text = text }
 
-pub move_goes_on : (v : View NodeState) (m : Moving) (e : Entered) (left : ℕ) → EndsStage v m → is_some (stage_in m.stage) ≡ true → left + 1 ≡ v.face.left
+pub move_goes_on : (v : View NodeState) (m : Moving) (e : Entered) (left : ℕ) → EndsStage v m → is_some (stage_in m.stage) ≡ true
+    → left + 1 ≡ v.face.left
     → EntersMove v m v.state.at.sizes left e → ChangesRight v (only_enters e)
 move_goes_on v m e left ends goes falls enters plan t p is less row holds = by (stages_left m.stage) refl goes
   where
     h : HasGoneOn plan t p v.state m
     h = ends plan t p is less row holds
 
-    by : (l : List Stage) → stages_left m.stage ≡ l → is_some (slice_get l 0) ≡ true → IsRight plan (drop (t + 1) (phases_in plan)) p e (changed v.state (only_enters e))
+    by : (l : List Stage) → stages_left m.stage ≡ l → is_some (slice_get l 0) ≡ true → IsRight plan (drop (t + 1) (phases_in plan)) p e
+        (changed v.state (only_enters e))
     by [] there some = cc
     by (now ∷ more) there some =
         let s = scene_in plan in
@@ -59,7 +62,8 @@ move_goes_on v m e left ends goes falls enters plan t p is less row holds = by (
         let next = moving_is_plain m.stage now more there in
         let from : stages_left h.before ≡ h.stage ∷ now ∷ more = h.from ∙ ap (λ l. h.stage ∷ l) there in
         let left_is = phases_follow plan h.past step h.rest h.stage (stages_left m.stage) plain.votes in
-        let past = is_past plan t p (present_phase plan h.past step h.rest h.stage (stages_left m.stage)) (left_in plan h.past step h.rest (stages_left m.stage)) v.face row
+        let past = is_past plan t p (present_phase plan h.past step h.rest h.stage (stages_left m.stage))
+        (left_in plan h.past step h.rest (stages_left m.stage)) v.face row
         (h.in_step.phases_are ∙ left_is) in
         let knows : Knows s (run_in plan) h.past step now p (held_of st) =
         subst (λ text. Knows s (run_in plan) h.past step now p (with_text (held_of v.state) text)) (sym (append-nil v.state.text))

@@ -20,7 +20,8 @@ abbrev writing : Effect → Entered → List ℕ → Change
 writing effect e line = record { effect = effect; line = line; entered = e }
 
 -- where the line is empty
-pub no_line : (v : View NodeState) (effect : Effect) (e : Entered) (line : List ℕ) → line ≡ [] → ChangesRight v (record { effect = effect; line = []; entered = e })
+pub no_line : (v : View NodeState) (effect : Effect) (e : Entered) (line : List ℕ) → line ≡ []
+    → ChangesRight v (record { effect = effect; line = []; entered = e })
     → ChangesRight v (record { effect = effect; line = line; entered = e })
 no_line v effect e line none right = subst (λ l. ChangesRight v (writing effect e l)) (sym none) right
 
@@ -28,14 +29,17 @@ no_line v effect e line none right = subst (λ l. ChangesRight v (writing effect
 pub has_left : (s : Inside) (v : View NodeState) → shown s ≡ v → next_of v.face ≡ Work → 1 ≤ s.left
 has_left s v same work = work_left s.left s.due.items s.out.items (subst (λ (x : View NodeState). next_of x.face ≡ Work) (sym same) work)
 
-pub made_seen : (s : Inside) (v : View NodeState) (change : Change) → shown s ≡ v → CanStand s.me s.session.now.nodes change.entered → change.entered.left < s.left
+pub made_seen : (s : Inside) (v : View NodeState) (change : Change) → shown s ≡ v → CanStand s.me s.session.now.nodes change.entered
+    → change.entered.left < s.left
     → CanBeMade v change
 made_seen s v change same stands falls = subst (λ x. CanBeMade x change) same (record { stands = stands; falls = falls })
 
 -- with a phase less
-pub less_made : (s : Inside) (v : View NodeState) (change : Change) → shown s ≡ v → next_of v.face ≡ Work → CanStand s.me s.session.now.nodes change.entered
+pub less_made : (s : Inside) (v : View NodeState) (change : Change) → shown s ≡ v → next_of v.face ≡ Work
+    → CanStand s.me s.session.now.nodes change.entered
     → change.entered.left ≤ s.left - 1 → CanBeMade v change
-less_made s v change same work stands falls = made_seen s v change same stands (falls_one change.entered.left s.left (has_left s v same work) falls)
+less_made s v change same work stands falls = made_seen s v change same stands
+    (falls_one change.entered.left s.left (has_left s v same work) falls)
 
 pub right_seen : (s : Inside) (v : View NodeState) (change : Change) → shown s ≡ v → ChangesRight (shown s) change → ChangesRight v change
 right_seen s v change same right = subst (λ x. ChangesRight x change) same right
@@ -43,8 +47,11 @@ right_seen s v change same right = subst (λ x. ChangesRight x change) same righ
 -- what is looked at
 pub look_seen : (s : Inside) (v : View NodeState) (elements parts : List (List ℤ)) (records : Records) (b : Between) → shown s ≡ v
     → LooksWith v.state v.face.me elements parts records b → LooksWith (shown s).state s.me elements parts records b
-look_seen s v elements parts records b same look = subst (λ (x : View NodeState). LooksWith x.state x.face.me elements parts records b) (sym same) look
+look_seen s v elements parts records b same look = subst (λ (x : View NodeState). LooksWith x.state x.face.me elements parts records b)
+    (sym same) look
 
-pub number_seen : (s : Inside) (v : View NodeState) (number : ℕ) → shown s ≡ v → (v.state.at.execution < 2 ^ 32 → number ≡ v.state.at.execution + 1)
+pub number_seen : (s : Inside) (v : View NodeState) (number : ℕ) → shown s ≡ v
+    → (v.state.at.execution < 2 ^ 32 → number ≡ v.state.at.execution + 1)
     → s.at.execution < 2 ^ 32 → number ≡ s.at.execution + 1
-number_seen s v number same counts = subst (λ (x : View NodeState). x.state.at.execution < 2 ^ 32 → number ≡ x.state.at.execution + 1) (sym same) counts
+number_seen s v number same counts = subst (λ (x : View NodeState). x.state.at.execution < 2 ^ 32 → number ≡ x.state.at.execution + 1)
+    (sym same) counts

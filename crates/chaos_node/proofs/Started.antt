@@ -1,5 +1,6 @@
 -- What a node has at its start.
-use Rattle.std.specs.Prelude.{◌≡◌, refl, ℕ, zero, suc, ◌+◌, ◌<◌, ◌≤◌, ◌^◌, ◌==◌, Bool, true, false, if◌then◌else◌, ℤ, pos, List, [], ◌∷◌, length, map, replicate, drop, slice_get, slice_set, unwrap_or, Option, Some, None, Result, Ok, Err, IfOk}
+use Rattle.std.specs.Prelude.{◌≡◌, refl, ℕ, zero, suc, ◌+◌, ◌<◌, ◌≤◌, ◌^◌, ◌==◌, Bool, true, false, if◌then◌else◌, ℤ, pos, List, [], ◌∷◌}
+use Rattle.std.specs.Prelude.{length, map, replicate, drop, slice_get, slice_set, unwrap_or, Option, Some, None, Result, Ok, Err, IfOk}
 use Rattle.std.specs.FinMap as fin
 use Rattle.std.specs.List.{AllZip, enumerate_from, range_with_len}
 use Rattle.std.proofs.Common.{ap, sym, ◌∙◌, subst, arith}
@@ -16,16 +17,16 @@ use Rattle.fd_program.specs.declared.array.LayoutName.{LayoutName}
 use Rattle.fd_program.specs.declared.trace.Step.{Step}
 use Rattle.chaos_hash.specs.Stamps.{Stamps}
 use Rattle.chaos_hash.specs.declared.held.Held.{Held as Entry}
-use Rattle.chaos_prepare.specs.Tables.{no_table}
+use Rattle.plan_tables.specs.Tables.{no_table}
 use Rattle.chaos_records.specs.Keeping.{Keeps as KeepsRecords}
-use Rattle.chaos_run.specs.Held.{Held, HasPage, HasPlaces, KeepsLoop, Stands, elements_of, entry_at, lines_of, text_on}
+use Rattle.plan_run.specs.Held.{Held, HasPage, HasPlaces, KeepsLoop, Stands, elements_of, entry_at, lines_of, text_on}
 use Rattle.chaos_count.specs.Counted.{IsCount}
-use Rattle.chaos_run.specs.LeftLaws.{phases_few}
-use Rattle.chaos_run.specs.Rows.{IsRunPlan, RunPlan, face_left, node_row, phases_in, scene_in}
-use Rattle.chaos_run.specs.StepLaws.{start_stands}
-use Rattle.chaos_run.specs.declared.kept.Kept.{Kept}
-use Rattle.chaos_places.specs.Places.{left_from, whole_from}
-use Rattle.chaos_places.specs.StepEnds.{run_starts}
+use Rattle.plan_run.specs.LeftLaws.{phases_few}
+use Rattle.plan_run.specs.Rows.{IsRunPlan, RunPlan, face_left, node_row, phases_in, scene_in}
+use Rattle.plan_run.specs.StepLaws.{start_stands}
+use Rattle.plan_run.specs.declared.kept.Kept.{Kept}
+use Rattle.plan_walk.specs.Places.{left_from, whole_from}
+use Rattle.plan_walk.specs.StepEnds.{run_starts}
 use Rattle.bsp_core.specs.Views.{Face}
 use Rattle.chaos_entering.specs.Coming.{Covers, IsNext, IsRight, begun_holdings, entered_state, face_of, noted}
 use Rattle.chaos_holdings.specs.Keeping.{no_kept}
@@ -66,13 +67,16 @@ table_of_none (suc n) (suc d) = table_of_none n d
 
 -- ---- owners
 
-owners_from : (s : Scene) (a : ℕ) (layouts : List LayoutName) → map (λ (d, l). owners_by s l.extent (form_set [] d)) (enumerate_from a layouts) ≡ block_owners s.nodes layouts
+owners_from : (s : Scene) (a : ℕ) (layouts : List LayoutName) → map (λ (d, l). owners_by s l.extent (form_set [] d))
+    (enumerate_from a layouts) ≡ block_owners s.nodes layouts
 owners_from s a [] = refl
 owners_from s a (l ∷ ls) = ap (λ (o : List (List ℕ)). regular_owners Block l.extent s.nodes ∷ o) (owners_from s (a + 1) ls)
 
-elements_from : (nodes : ℕ) (layouts : List LayoutName) (p : ℕ) → block_elements nodes layouts p ≡ elements_of (block_owners nodes layouts) p
+elements_from : (nodes : ℕ) (layouts : List LayoutName) (p : ℕ) → block_elements nodes layouts p
+    ≡ elements_of (block_owners nodes layouts) p
 elements_from nodes [] p = refl
-elements_from nodes (l ∷ ls) p = ap (λ (es : List (List ℤ)). map pos (elements_on (regular_owners Block l.extent nodes) p) ∷ es) (elements_from nodes ls p)
+elements_from nodes (l ∷ ls) p = ap (λ (es : List (List ℤ)). map pos (elements_on (regular_owners Block l.extent nodes) p) ∷ es)
+    (elements_from nodes ls p)
 
 -- ---- what is held
 
@@ -97,7 +101,8 @@ pub record EndsNew (s : Session) (e : NodeEnd) : Type 0 where
   pub refused : e.refused ≡ None
   pub counts : e.counts ≡ replicate (length s.checked.sites) no_count
 
-stands_first : (plan : RunPlan) (p : ℕ) (own : List (List ℤ)) (at : At) (h : Holdings) (e : NodeEnd) → IsFirst (session_in plan) p own h → EndsNew (session_in plan) e
+stands_first : (plan : RunPlan) (p : ℕ) (own : List (List ℤ)) (at : At) (h : Holdings) (e : NodeEnd) → IsFirst (session_in plan) p own h
+    → EndsNew (session_in plan) e
     → own ≡ parts_of plan.checked.arrays (block_owners plan.nodes plan.checked.layouts) plan.store p
     → Stands (scene_in plan) [] p (held_of (state_first (session_in plan) at h e))
 stands_first plan p own at h e first new is =
@@ -109,14 +114,16 @@ stands_first plan p own at h e first new is =
           ∙ ap (λ store. parts_of plan.checked.arrays (owners_at s []) store p) (sym (run_starts plan).store);
       elements = first.elements ∙ elements_from plan.nodes plan.checked.layouts p ∙ ap (λ o. elements_of o p) (sym owners);
       records = subst (KeepsRecords plan.checked []) (sym first.records) (start_stands s p).records;
-      pages = subst (λ pages. AllZip (λ d page. HasPage s.nodes p (form_at [] d) (list_at (owners_at s []) d) page) (below n) pages) (sym (first.pages ∙ same_for_each None 0 n))
+      pages = subst (λ pages. AllZip (λ d page. HasPage s.nodes p (form_at [] d) (list_at (owners_at s []) d) page) (below n) pages)
+          (sym (first.pages ∙ same_for_each None 0 n))
           (each_same (λ d page. HasPage s.nodes p (form_at [] d) (list_at (owners_at s []) d) page) None (λ d. refl) (below n));
       counts = new.counts ∙ same_for_each no_count 0 (length plan.checked.sites);
       places = λ d x entry held. (start_stands s p).places d x entry
           (sym (ap (λ (tables : List Stamps). entry_at tables d x) first.tables ∙ no_entry n d x) ∙ held);
     }
 
-come_first : (plan : RunPlan) (p : ℕ) (own : List (List ℤ)) (at : At) (h : Holdings) (e : NodeEnd) → IsFirst (session_in plan) p own h → EndsNew (session_in plan) e
+come_first : (plan : RunPlan) (p : ℕ) (own : List (List ℤ)) (at : At) (h : Holdings) (e : NodeEnd) → IsFirst (session_in plan) p own h
+    → EndsNew (session_in plan) e
     → own ≡ parts_of plan.checked.arrays (block_owners plan.nodes plan.checked.layouts) plan.store p
     → HasCome plan [] (trace_of plan.checked) p (held_of (state_first (session_in plan) at h e))
 come_first plan p own at h e first new is =
@@ -125,7 +132,8 @@ come_first plan p own at h e first new is =
     record {
       places = (run_starts plan).stands;
       stands = stands_first plan p own at h e first new is;
-      keeps = subst (λ (kept : List (Option Kept)). AllZip (λ k. KeepsLoop s [] k p h.tables) (below n) kept) (sym (first.kept ∙ same_for_each no_kept 0 n))
+      keeps = subst (λ (kept : List (Option Kept)). AllZip (λ k. KeepsLoop s [] k p h.tables) (below n) kept)
+          (sym (first.kept ∙ same_for_each no_kept 0 n))
           (each_same (λ k. KeepsLoop s [] k p h.tables) no_kept (λ k. refl) (below n));
       inspected = refl;
       text = no_text p s;
@@ -141,7 +149,8 @@ begun_same h e n none = ap (λ (kept : List (Option Kept)). record h { kept = ke
     by false = refl
 
 -- before the first step nothing is behind
-pub next_first : (plan : RunPlan) (p left : ℕ) (own : List (List ℤ)) (at : At) (h : Holdings) (e : NodeEnd) → p < plan.nodes → IsFirst (session_in plan) p own h → EndsNew (session_in plan) e
+pub next_first : (plan : RunPlan) (p left : ℕ) (own : List (List ℤ)) (at : At) (h : Holdings) (e : NodeEnd) → p < plan.nodes
+    → IsFirst (session_in plan) p own h → EndsNew (session_in plan) e
     → own ≡ parts_of plan.checked.arrays (block_owners plan.nodes plan.checked.layouts) plan.store p
     → left ≡ length (whole_from plan [] (trace_of plan.checked))
     → IsNext plan [] (trace_of plan.checked) p left (state_first (session_in plan) at h e)
@@ -153,7 +162,8 @@ next_first plan p left own at h e less first new is left_is = record {
 }
 
 -- what was entered then is the first row
-pub starts_right : (plan : RunPlan) (p : ℕ) (own : List (List ℤ)) (h : Holdings) (end : NodeEnd) (e : Entered) (st : NodeState) → IsFirst (session_in plan) p own h
+pub starts_right : (plan : RunPlan) (p : ℕ) (own : List (List ℤ)) (h : Holdings) (end : NodeEnd) (e : Entered) (st : NodeState)
+    → IsFirst (session_in plan) p own h
     → IsRight plan (left_from plan [] (trace_of plan.checked)) p e (state_first (session_in plan) e.at h end)
     → st ≡ record (state_first (session_in plan) e.at h end) { inspected = noted e.begins e.at.execution [] }
     → (face_of p plan.nodes e ≡ node_row plan 0 p) × node_holds plan 0 p st
@@ -161,7 +171,8 @@ starts_right plan p own h end e st first right is = (
   right.face ∙ ap (λ fs. face_left (scene_in plan) fs p) (sym (run_starts plan).left),
   subst (λ fs. HoldsAt plan fs p st) (sym (run_starts plan).left)
       (subst (HoldsAt plan (left_from plan [] (trace_of plan.checked)) p)
-      (ap (λ (x : Holdings). record (state_first (session_in plan) e.at x end) { inspected = noted e.begins e.at.execution [] }) (begun_same h e (length plan.checked.sites) first.kept) ∙ sym is) right.holds),
+      (ap (λ (x : Holdings). record (state_first (session_in plan) e.at x end) { inspected = noted e.begins e.at.execution [] })
+      (begun_same h e (length plan.checked.sites) first.kept) ∙ sym is) right.holds),
 )
 
 -- the count of the phases of a plan
@@ -181,10 +192,12 @@ covers_same kept now same = subst (λ x. Covers x now) (sym same) (record { reco
 pub started : (s : Session) (p left : ℕ) (own : List (List ℤ)) (h : Holdings) (end : NodeEnd) (e : Entered) (face : Face) (st : NodeState)
     → p < s.nodes → IsFirst s p own h → EndsNew s end
     → ((plan : RunPlan) → IsRunPlan plan → s ≡ session_in plan → left ≡ length (whole_from plan [] s.trace))
-    → ((plan : RunPlan) → IsRunPlan plan → s ≡ session_in plan → IsNext plan [] (trace_of plan.checked) p left (state_first (session_in plan) e.at h end)
+    → ((plan : RunPlan) → IsRunPlan plan → s ≡ session_in plan → IsNext plan [] (trace_of plan.checked) p left
+    (state_first (session_in plan) e.at h end)
     → IsRight plan (left_from plan [] (trace_of plan.checked)) p e (state_first (session_in plan) e.at h end))
     → face ≡ face_of p s.nodes e → st ≡ record (state_first s e.at h end) { inspected = noted e.begins e.at.execution [] }
-    → (plan : RunPlan) → IsRunPlan plan → s ≡ session_in plan → own ≡ parts_of plan.checked.arrays (block_owners plan.nodes plan.checked.layouts) plan.store p
+    → (plan : RunPlan) → IsRunPlan plan → s ≡ session_in plan
+    → own ≡ parts_of plan.checked.arrays (block_owners plan.nodes plan.checked.layouts) plan.store p
     → (face ≡ node_row plan 0 p) × node_holds plan 0 p st
 started s p left own h end e face st less first new left_is right face_is st_is plan is same own_is =
     let firsts = subst (λ x. IsFirst x p own h) same first in

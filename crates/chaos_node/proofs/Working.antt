@@ -6,8 +6,8 @@ use Rattle.bsp_core.specs.Views.{Face, View, WorksFor, next_of, ready}
 use Rattle.bsp_core.specs.declared.phased.Want.{Want}
 use Rattle.bsp_core.specs.declared.phased.Want.TheVariants.{Done, Work}
 use Rattle.fd_program.specs.Layouts.{Scene}
-use Rattle.chaos_run.specs.Phases.{Phase}
-use Rattle.chaos_run.specs.Rows.{IsRunPlan, RunPlan, face_left, node_row, phases_in, scene_in}
+use Rattle.plan_run.specs.Phases.{Phase}
+use Rattle.plan_run.specs.Rows.{IsRunPlan, RunPlan, face_left, node_row, phases_in, scene_in}
 use Rattle.chaos_node.specs.Changing.{ChangesRight, changed}
 use Rattle.chaos_entering.specs.Coming.{entered_state, face_of}
 use Rattle.chaos_entering.specs.Standing.{HoldsAt, IsPlace, node_holds}

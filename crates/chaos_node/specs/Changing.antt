@@ -1,7 +1,7 @@
 -- What the end of a phase changes.
 use Rattle.std.specs.Prelude.{◌≡◌, ℕ, ◌+◌, ◌<◌, ◌++◌, drop}
 use Rattle.bsp_core.specs.Views.{View, ready}
-use Rattle.chaos_run.specs.Rows.{IsRunPlan, RunPlan, node_row, phases_in}
+use Rattle.plan_run.specs.Rows.{IsRunPlan, RunPlan, node_row, phases_in}
 use Rattle.chaos_entering.specs.Coming.{CanStand, IsRight}
 use Rattle.chaos_holdings.specs.Effects.{end_after, holdings_after}
 use Rattle.chaos_entering.specs.Standing.{node_holds}

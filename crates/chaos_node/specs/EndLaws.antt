@@ -1,5 +1,6 @@
 -- What a node knows at the end of a plan.
-use Rattle.std.specs.Prelude.{◌≡◌, refl, ℕ, zero, suc, ◌+◌, ◌<◌, ℤ, Bool, true, false, if◌then◌else◌, List, [], ◌∷◌, ◌++◌, length, map, pos, drop, take, reverse, flat_map, is_some, Option, Some, None}
+use Rattle.std.specs.Prelude.{◌≡◌, refl, ℕ, zero, suc, ◌+◌, ◌<◌, ℤ, Bool, true, false, if◌then◌else◌, List, [], ◌∷◌, ◌++◌, length, map, pos}
+use Rattle.std.specs.Prelude.{drop, take, reverse, flat_map, is_some, Option, Some, None}
 use Rattle.std.proofs.Common.{ap, sym, ◌∙◌, subst, append_assoc}
 use Rattle.std.proofs.lemmas.Grind.{reverse_onto}
 use Rattle.std.proofs.lemmas.List.{append-nil}
@@ -17,19 +18,20 @@ use Rattle.fd_program.specs.declared.refused.Refused.{Refused}
 use Rattle.fd_program.specs.declared.trace.Step.{Step}
 use Rattle.fd_program.specs.declared.trace.Step.TheVariants.{Distribute, Print, Forall}
 use Rattle.bsp_core.specs.Lockstep.{IsEnd}
-use Rattle.chaos_run.specs.DueLaws.{end_drops}
-use Rattle.chaos_run.specs.Held.{Held, lines_of, text_on}
-use Rattle.chaos_run.specs.Phases.{Phase, cut_phases}
-use Rattle.chaos_run.specs.Rows.{IsRunPlan, RunPlan, node_row, phases_in, run_in, scene_in}
-use Rattle.chaos_run.specs.declared.stage.Stage.{Stage}
-use Rattle.chaos_run.specs.declared.stage.Stage.TheVariants as stage
-use Rattle.chaos_phases.specs.declared.loop_phase.LoopPhase.TheVariants as phase
-use Rattle.chaos_places.specs.Places.{left_in, outputs_left}
-use Rattle.chaos_places.specs.StepEnds.{run_starts}
+use Rattle.plan_run.specs.DueLaws.{end_drops}
+use Rattle.plan_run.specs.Held.{Held, lines_of, text_on}
+use Rattle.plan_run.specs.Phases.{Phase, cut_phases}
+use Rattle.plan_run.specs.Rows.{IsRunPlan, RunPlan, node_row, phases_in, run_in, scene_in}
+use Rattle.plan_run.specs.declared.stage.Stage.{Stage}
+use Rattle.plan_run.specs.declared.stage.Stage.TheVariants as stage
+use Rattle.plan_loop.specs.declared.loop_phase.LoopPhase.TheVariants as phase
+use Rattle.plan_walk.specs.Places.{left_in, outputs_left}
+use Rattle.plan_walk.specs.StepEnds.{run_starts}
 use Rattle.chaos_entering.specs.Standing.{IsPlace, IsOver, KnowsBehind, node_holds}
 use Rattle.chaos_entering.specs.State.{NodeState, held_of}
 use Rattle.chaos_entering.specs.declared.activity.Activity.{Activity}
-use Rattle.chaos_entering.specs.declared.activity.Activity.TheVariants.{Printing, Output, Moving as Moves, Inspecting, Gathering, Scattering, Ended}
+use Rattle.chaos_entering.specs.declared.activity.Activity.TheVariants.{Printing, Output, Moving as Moves, Inspecting, Gathering}
+use Rattle.chaos_entering.specs.declared.activity.Activity.TheVariants.{Scattering, Ended}
 
 -- The text of node 0 is that of the run, and the others have none; the refusal is the run's; the counts are the node's own over the
 -- completed steps; and the inspected executions are those that inspect.
@@ -40,7 +42,8 @@ pub record KnowsRun (plan : RunPlan) (p : ℕ) (st : NodeState) : Type 0 where
   pub inspected : st.inspected ≡ map pos (inspecting_of plan.checked (executed_of (run_in plan)))
 
 abbrev pub NodesEndWithRun : Type 0
-NodesEndWithRun = (plan : RunPlan) (t p : ℕ) (st : NodeState) → IsRunPlan plan → IsEnd (node_row plan) t → p < plan.nodes → node_holds plan t p st → KnowsRun plan p st
+NodesEndWithRun = (plan : RunPlan) (t p : ℕ) (st : NodeState) → IsRunPlan plan → IsEnd (node_row plan) t → p < plan.nodes
+    → node_holds plan t p st → KnowsRun plan p st
 
 -- ---- no phase is left only at the end
 
@@ -60,12 +63,14 @@ output_left : (plan : RunPlan) (phases : List Phase) (j : ℕ) (name : OutputNam
     → phases ≡ [] → phases ≡ outputs_left plan (completed_of (run_in plan)) j (name ∷ names) → ⊥
 output_left plan phases j name names none e = cons_nil _ _ (sym e ∙ none)
 
-over_at : (plan : RunPlan) (phases : List Phase) (p : ℕ) (st : NodeState) (a : Activity) → phases ≡ [] → IsPlace plan phases p st a → IsOver plan phases p st
+over_at : (plan : RunPlan) (phases : List Phase) (p : ℕ) (st : NodeState) (a : Activity) → phases ≡ [] → IsPlace plan phases p st a
+    → IsOver plan phases p st
 over_at plan phases p st Printing none h = absurd (stage_left plan phases h.past _ h.rest _ [] none h.in_step.phases_are)
 over_at plan phases p st (Output j) none h = absurd (output_left plan phases j h.name h.names none h.phases_are)
 over_at plan phases p st (Moves m) none h = absurd (stage_left plan phases h.past _ h.rest h.stage h.more none h.in_step.phases_are)
 over_at plan phases p st (Inspecting i) none h = absurd (stage_left plan phases h.past _ h.rest _ _ none h.in_step.phases_are)
-over_at plan phases p st Gathering none h = absurd (stage_left plan phases h.past _ h.rest _ (stage.InLoop phase.Scatter ∷ []) none h.in_step.phases_are)
+over_at plan phases p st Gathering none h = absurd (stage_left plan phases h.past _ h.rest _ (stage.InLoop phase.Scatter ∷ []) none
+    h.in_step.phases_are)
 over_at plan phases p st (Scattering x) none h = absurd (stage_left plan phases h.past _ h.rest _ [] none h.in_step.phases_are)
 over_at plan phases p st Ended none h = h
 
@@ -75,7 +80,8 @@ over_at plan phases p st Ended none h = h
 abbrev completed_behind : Run → List Step → List Step
 completed_behind run past = drop (if is_some run.refused then 1 else 0) (reverse (map (λ s. s.0) run.executed) ++ past)
 
-nothing_printed : (c : Checked) (step : Step) (store : List (List ℤ)) (r : Refused) → refusal_of c step store ≡ Some r → printed c (step, store) ≡ []
+nothing_printed : (c : Checked) (step : Step) (store : List (List ℤ)) (r : Refused) → refusal_of c step store ≡ Some r
+    → printed c (step, store) ≡ []
 nothing_printed c (Distribute decomposition form) store r e = refl
 nothing_printed c (Print array) store r e = cc
 nothing_printed c (Forall site turn) store r e = refl
@@ -96,8 +102,10 @@ lines_behind s (step ∷ steps) past run is here =
     by : (o : Option Refused) → refusal_of s.checked step (store_at s past) ≡ o
         → ((rest : Run) → rest ≡ run_from s.checked steps (store_at s (step ∷ past)) → IsReached s (step ∷ past) steps
         → lines_of s (completed_behind rest (step ∷ past)) ≡ lines_of s (step ∷ past) ++ flat_map (printed s.checked) rest.executed)
-        → lines_of s (completed_behind (run_past step (store_at s past) o (run_from s.checked steps (after_step s.checked step (store_at s past)))) past)
-        ≡ lines_of s past ++ flat_map (printed s.checked) (run_past step (store_at s past) o (run_from s.checked steps (after_step s.checked step (store_at s past)))).executed
+        → lines_of s (completed_behind
+        (run_past step (store_at s past) o (run_from s.checked steps (after_step s.checked step (store_at s past)))) past)
+        ≡ lines_of s past ++ flat_map (printed s.checked)
+        (run_past step (store_at s past) o (run_from s.checked steps (after_step s.checked step (store_at s past)))).executed
     by None e onwards =
         let next = reached_next s past step steps here e in
         let rest = run_from s.checked steps (after_step s.checked step (store_at s past)) in
@@ -107,9 +115,11 @@ lines_behind s (step ∷ steps) past run is here =
         ∙ append_assoc (lines_of s past) line (flat_map (printed s.checked) rest.executed)
     by (Some r) e onwards =
         sym (append-nil (lines_of s past))
-        ∙ ap (λ (l : List ℕ). lines_of s past ++ l) (sym (append-nil (printed s.checked (step, store_at s past)) ∙ nothing_printed s.checked step (store_at s past) r e))
+        ∙ ap (λ (l : List ℕ). lines_of s past ++ l) (sym (append-nil (printed s.checked (step, store_at s past))
+        ∙ nothing_printed s.checked step (store_at s past) r e))
 
-lines_all : (plan : RunPlan) → lines_of (scene_in plan) (completed_of (run_in plan)) ≡ flat_map (printed plan.checked) (run_in plan).executed
+lines_all : (plan : RunPlan) → lines_of (scene_in plan) (completed_of (run_in plan)) ≡ flat_map (printed plan.checked)
+    (run_in plan).executed
 lines_all plan =
     let s = scene_in plan in
     let run = run_in plan in
@@ -130,10 +140,13 @@ whole_text_is : (plan : RunPlan)
 whole_text_is plan =
     let run = run_in plan in
     let refusal = refusal_text plan.checked run.refused in
-    ap (λ (l : List ℕ). l ++ refusal ++ flat_map (output_line plan.checked run.last) (take (length plan.checked.outputs) plan.checked.outputs)) (lines_all plan)
-    ∙ ap (λ os. flat_map (printed plan.checked) run.executed ++ refusal ++ flat_map (output_line plan.checked run.last) os) (take_whole plan.checked.outputs)
+    ap (λ (l : List ℕ). l ++ refusal ++ flat_map (output_line plan.checked run.last)
+    (take (length plan.checked.outputs) plan.checked.outputs)) (lines_all plan)
+    ∙ ap (λ os. flat_map (printed plan.checked) run.executed ++ refusal ++ flat_map (output_line plan.checked run.last) os)
+    (take_whole plan.checked.outputs)
 
-knows_run : (plan : RunPlan) (p : ℕ) (st : NodeState) → KnowsBehind (scene_in plan) (run_in plan) (completed_of (run_in plan)) (length plan.checked.outputs) p (held_of st) → KnowsRun plan p st
+knows_run : (plan : RunPlan) (p : ℕ) (st : NodeState) → KnowsBehind (scene_in plan) (run_in plan) (completed_of (run_in plan))
+    (length plan.checked.outputs) p (held_of st) → KnowsRun plan p st
 knows_run plan p st h = record {
   text = h.text ∙ ap (text_on p) (whole_text_is plan);
   refused = h.refused;

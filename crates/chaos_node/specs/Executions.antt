@@ -1,7 +1,7 @@
 -- What a FORALL counts behind an execution.
 use Rattle.fd_program.specs.Reports.{plus_count}
 use Rattle.fd_program.specs.declared.count.SiteCount.{SiteCount}
-use Rattle.chaos_run.specs.StandLaws.{count_in}
+use Rattle.plan_run.specs.StandLaws.{count_in}
 use Rattle.chaos_sched.specs.declared.prepared.Prepared.{Prepared}
 use Rattle.chaos_holdings.specs.Executions.{counted_with, is_last}
 use Rattle.chaos_entering.specs.State.{NodeState}

@@ -11,8 +11,8 @@ use Rattle.chaos_moving.specs.IsMoving.{IsMoving}
 use Rattle.chaos_moving.specs.Stages.{left_in as stages_left}
 use Rattle.chaos_moving.specs.declared.moving.Moving.{Moving}
 use Rattle.chaos_moving.specs.declared.moving.MovingStage.{MovingStage}
-use Rattle.chaos_run.specs.Rows.{IsRunPlan, RunPlan, node_row, phases_in, scene_in}
-use Rattle.chaos_run.specs.declared.stage.Stage.{Stage}
+use Rattle.plan_run.specs.Rows.{IsRunPlan, RunPlan, node_row, phases_in, scene_in}
+use Rattle.plan_run.specs.declared.stage.Stage.{Stage}
 use Rattle.chaos_entering.specs.Standing.{HasSizes, IsInStep, node_holds, session_in}
 use Rattle.chaos_entering.specs.State.{NodeState}
 
@@ -31,7 +31,8 @@ pub record HasGoneOn (plan : RunPlan) (t p : ℕ) (st : NodeState) (m : Moving) 
   pub decomposition : m.share.decomposition ≡ st.at.site
   pub node : m.share.me ≡ p
   pub by : m.form ≡ form
-  pub moving : IsMoving m (scene_in plan) (owners_at (scene_in plan) past) (store_at (scene_in plan) past) (owners_after (scene_in plan) past st.at.site form)
+  pub moving : IsMoving m (scene_in plan) (owners_at (scene_in plan) past) (store_at (scene_in plan) past)
+      (owners_after (scene_in plan) past st.at.site form)
 
 -- so it is for whatever plan and phase at which the node stands
 abbrev pub EndsStage : View NodeState → Moving → Type 0

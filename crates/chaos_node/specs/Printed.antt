@@ -1,5 +1,6 @@
 -- The end of a PRINT, and that of an array of OUTPUT.
-use Rattle.std.specs.Prelude.{◌≡◌, refl, ℕ, zero, suc, ◌+◌, ◌-◌, ◌<◌, ◌≤◌, ◌^◌, ℤ, Bool, true, false, if◌then◌else◌, List, [], ◌∷◌, ◌++◌, length, map, reverse, drop, take, slice_get, is_some, Option, Some, None}
+use Rattle.std.specs.Prelude.{◌≡◌, refl, ℕ, zero, suc, ◌+◌, ◌-◌, ◌<◌, ◌≤◌, ◌^◌, ℤ, Bool, true, false, if◌then◌else◌, List, [], ◌∷◌, ◌++◌}
+use Rattle.std.specs.Prelude.{length, map, reverse, drop, take, slice_get, is_some, Option, Some, None}
 use Rattle.std.specs.List.{AllZip}
 use Rattle.std.proofs.Common.{ap, sym, ◌∙◌, subst, arith, append_assoc, add-one}
 use Rattle.std.proofs.lemmas.List.{reverse-reverse}
@@ -21,17 +22,18 @@ use Rattle.fd_program.specs.declared.checked.Checked.{Checked}
 use Rattle.fd_program.specs.declared.refused.Refused.{Refused}
 use Rattle.fd_program.specs.declared.trace.Step.{Step}
 use Rattle.fd_program.specs.declared.trace.Step.TheVariants.{Print}
-use Rattle.chaos_run.specs.Held.{AtPhase, EachLoop, Held, KeepsInStep, KeepsLoop, Stands}
-use Rattle.chaos_run.specs.Phases.{Phase}
-use Rattle.chaos_run.specs.Rows.{IsRunPlan, RunPlan, face_left, phases_in, run_in, scene_in}
-use Rattle.chaos_run.specs.StepLaws.{print_keeps_loops, print_stands}
-use Rattle.chaos_run.specs.declared.kept.Kept.{Kept}
-use Rattle.chaos_run.specs.declared.stage.Stage.TheVariants as stage
-use Rattle.chaos_places.specs.LetterLaws.{letters_come_in}
-use Rattle.chaos_places.specs.PhaseBegins.{drop_first, phases_follow, rows_follow}
-use Rattle.chaos_places.specs.Places.{left_from, left_in, output_phase, outputs_left, present_phase, whole_from}
-use Rattle.chaos_places.specs.StepEnds.{steps_are_known, steps_end}
-use Rattle.chaos_places.specs.Walking.{face_done}
+use Rattle.plan_run.specs.CompletedLaws.{completed_first}
+use Rattle.plan_run.specs.Held.{AtPhase, EachLoop, Held, KeepsInStep, KeepsLoop, Stands}
+use Rattle.plan_run.specs.Phases.{Phase}
+use Rattle.plan_run.specs.Rows.{IsRunPlan, RunPlan, face_left, phases_in, run_in, scene_in}
+use Rattle.plan_run.specs.StepLaws.{print_keeps_loops, print_stands}
+use Rattle.plan_run.specs.declared.kept.Kept.{Kept}
+use Rattle.plan_run.specs.declared.stage.Stage.TheVariants as stage
+use Rattle.plan_walk.specs.LetterLaws.{letters_come_in}
+use Rattle.plan_walk.specs.PhaseBegins.{drop_first, phases_follow, rows_follow}
+use Rattle.plan_walk.specs.Places.{left_from, left_in, output_phase, outputs_left, present_phase, whole_from}
+use Rattle.plan_walk.specs.StepEnds.{steps_are_known, steps_end}
+use Rattle.plan_walk.specs.Walking.{face_done}
 use Rattle.chaos_print.specs.InPlan.{CanPrint, OutputsGoOn, PlansCanPrint, PrintsGoOn, text_with}
 use Rattle.chaos_print.specs.Printing.{print_text}
 use Rattle.chaos_entering.specs.Coming.{IsBehindSteps, IsHere, IsNext, IsRight}
@@ -86,64 +88,39 @@ stands_beside s past p v text own h = record {
   places = h.places;
 }
 
-each_weaker : (P Q : ℕ → Option Kept → Type 0) → ((k : ℕ) (x : Option Kept) → P k x → Q k x) → (ks : List ℕ) (xs : List (Option Kept)) → AllZip P ks xs → AllZip Q ks xs
+each_weaker : (P Q : ℕ → Option Kept → Type 0) → ((k : ℕ) (x : Option Kept) → P k x → Q k x) → (ks : List ℕ) (xs : List (Option Kept))
+    → AllZip P ks xs → AllZip Q ks xs
 each_weaker P Q f [] [] h = tt
 each_weaker P Q f (k ∷ ks) (x ∷ xs) (h, more) = (f k x h, each_weaker P Q f ks xs more)
 each_weaker P Q f [] (x ∷ xs) h = absurd h
 each_weaker P Q f (k ∷ ks) [] h = absurd h
 
--- ---- the completed steps
-
-executed_first : (c : Checked) (steps : List Step) (store : List (List ℤ))
-    → (rest : List Step) × (map (λ (x : Step × List (List ℤ)). x.0) (run_from c steps store).executed ++ rest ≡ steps)
-executed_first c [] store = ([], refl)
-executed_first c (step ∷ steps) store = by (refusal_of c step store) (executed_first c steps (after_step c step store))
-  where
-    by : (o : Option Refused) → (rest : List Step) × (map (λ (x : Step × List (List ℤ)). x.0) (run_from c steps (after_step c step store)).executed ++ rest ≡ steps)
-        → (rest : List Step) × (map (λ (x : Step × List (List ℤ)). x.0) (run_past step store o (run_from c steps (after_step c step store))).executed ++ rest ≡ step ∷ steps)
-    by None (rest, e) = (rest, ap (λ l. step ∷ l) e)
-    by (Some r) more = (steps, refl)
-
-one_fewer : (xs ys all : List Step) → reverse xs ++ ys ≡ all → (rest : List Step) × (reverse (drop 1 xs) ++ rest ≡ all)
-one_fewer [] ys all e = (ys, e)
-one_fewer (x ∷ xs) ys all e = (x ∷ ys, sym (append_assoc (reverse xs) (x ∷ []) ys) ∙ ap (λ l. l ++ ys) (sym (reverse_onto xs x [])) ∙ e)
-
-pub completed_first : (plan : RunPlan) → (rest : List Step) × (reverse (completed_of (run_in plan)) ++ rest ≡ trace_of plan.checked)
-completed_first plan = by (is_some (run_in plan).refused)
-  where
-    steps : List Step
-    steps = map (λ (x : Step × List (List ℤ)). x.0) (run_in plan).executed
-
-    first : (rest : List Step) × (steps ++ rest ≡ trace_of plan.checked)
-    first = executed_first plan.checked (trace_of plan.checked) plan.store
-
-    all : reverse (executed_of (run_in plan)) ++ first.0 ≡ trace_of plan.checked
-    all = ap (λ l. l ++ first.0) (reverse-reverse steps) ∙ first.1
-
-    by : (b : Bool) → (rest : List Step) × (reverse (drop (if b then 1 else 0) (executed_of (run_in plan))) ++ rest ≡ trace_of plan.checked)
-    by true = one_fewer (executed_of (run_in plan)) first.0 (trace_of plan.checked) all
-    by false = (first.0, all)
-
 -- ---- the end of a PRINT
 
-place_at : (plan : RunPlan) (phases : List Phase) (p : ℕ) (st : NodeState) (a : Activity) → HoldsAt plan phases p st → st.at.activity ≡ a → IsPlace plan phases p st a
+place_at : (plan : RunPlan) (phases : List Phase) (p : ℕ) (st : NodeState) (a : Activity) → HoldsAt plan phases p st → st.at.activity ≡ a
+    → IsPlace plan phases p st a
 place_at plan phases p st a h e = subst (λ a. IsPlace plan phases p st a) e h.place
 
 -- what the text is with the line
-text_is : (plan : RunPlan) (t p : ℕ) (v : View NodeState) (line : List ℕ) (w : Held) → v.state.session ≡ session_in plan → v.face ≡ ready (face_left (scene_in plan) (drop t (phases_in plan))) p
-    → v.face.me ≡ p → line ≡ line_at v → w.text ≡ v.state.text → w.own ≡ v.state.at.own → v.state.text ++ line ≡ text_with plan t p v.state.at.site w
+text_is : (plan : RunPlan) (t p : ℕ) (v : View NodeState) (line : List ℕ) (w : Held) → v.state.session ≡ session_in plan
+    → v.face ≡ ready (face_left (scene_in plan) (drop t (phases_in plan))) p
+    → v.face.me ≡ p → line ≡ line_at v → w.text ≡ v.state.text → w.own ≡ v.state.at.own
+    → v.state.text ++ line ≡ text_with plan t p v.state.at.site w
 text_is plan t p v line w session row me text same own =
     ap (λ l. v.state.text ++ l)
     (text ∙ ap (λ (x : Session). print_text x.checked.arrays v.face.me v.state.at.site v.state.at.own v.face.got) session
     ∙ ap (λ n. print_text plan.checked.arrays n v.state.at.site v.state.at.own v.face.got) me
     ∙ ap (λ (f : Face). print_text plan.checked.arrays p v.state.at.site v.state.at.own f.got) row
-    ∙ ap (λ own. print_text plan.checked.arrays p v.state.at.site own (ready (face_left (scene_in plan) (drop t (phases_in plan))) p).got) (sym own))
-    ∙ ap (λ l. l ++ print_text plan.checked.arrays p v.state.at.site w.own (ready (face_left (scene_in plan) (drop t (phases_in plan))) p).got) (sym same)
+    ∙ ap (λ own. print_text plan.checked.arrays p v.state.at.site own (ready (face_left (scene_in plan) (drop t (phases_in plan))) p).got)
+    (sym own))
+    ∙ ap (λ l. l ++ print_text plan.checked.arrays p v.state.at.site w.own (ready (face_left (scene_in plan) (drop t (phases_in plan)))
+    p).got) (sym same)
 
 one_less : (k m n : ℕ) → k + 1 ≡ m → m ≡ n + 1 → k ≡ n
 one_less k m n e h = omega (arith, e, h)
 
-pub is_printed : PrintsGoOn → PlansCanPrint → (plan : RunPlan) (t p : ℕ) (v : View NodeState) (line : List ℕ) → IsRunPlan plan → p < plan.nodes
+pub is_printed : PrintsGoOn → PlansCanPrint → (plan : RunPlan) (t p : ℕ) (v : View NodeState) (line : List ℕ) → IsRunPlan plan
+    → p < plan.nodes
     → v.face ≡ ready (face_left (scene_in plan) (drop t (phases_in plan))) p → HoldsAt plan (drop t (phases_in plan)) p v.state
     → v.state.at.activity ≡ Printing → line ≡ line_at v → IsPrinted plan t p v line
 is_printed goes can plan t p v line is less row holds at text =
@@ -184,9 +161,12 @@ is_printed goes can plan t p v line is less row holds at text =
         node = less;
         come = record {
           places = ends.stands;
-          stands = print_stands s past a p (held_of (with_line v.state line)) ends.store (stands_beside s past p (held_of v.state) (v.state.text ++ line) [] i.knows.stands);
-          keeps = each_weaker (KeepsInStep s (run_in plan) past (Print a) stage.Print p v.state.holdings.tables) (λ k x. KeepsLoop s (Print a ∷ past) k p v.state.holdings.tables x)
-              (λ k x h. print_keeps_loops s past a k p v.state.holdings.tables x h) (below (length plan.checked.sites)) v.state.holdings.kept i.knows.keeps;
+          stands = print_stands s past a p (held_of (with_line v.state line)) ends.store (stands_beside s past p (held_of v.state)
+              (v.state.text ++ line) [] i.knows.stands);
+          keeps = each_weaker (KeepsInStep s (run_in plan) past (Print a) stage.Print p v.state.holdings.tables)
+              (λ k x. KeepsLoop s (Print a ∷ past) k p v.state.holdings.tables x)
+              (λ k x h. print_keeps_loops s past a k p v.state.holdings.tables x h) (below (length plan.checked.sites))
+              v.state.holdings.kept i.knows.keeps;
           inspected = i.knows.inspected;
           text = text_is plan t p v line held holds.session row me text refl refl
               ∙ goes plan t p f later a held (record { node = less; left = drops; step = refl; at = now; fits = fits }) refl;
@@ -215,7 +195,8 @@ outputs_count : (plan : RunPlan) (past : List Step) (j : ℕ) (os : List OutputN
 outputs_count plan past j [] = refl
 outputs_count plan past j (o ∷ os) = ap suc (outputs_count plan past (j + 1) os)
 
-pub is_put_out : OutputsGoOn → PlansCanPrint → (plan : RunPlan) (t p j : ℕ) (v : View NodeState) (line : List ℕ) → IsRunPlan plan → p < plan.nodes
+pub is_put_out : OutputsGoOn → PlansCanPrint → (plan : RunPlan) (t p j : ℕ) (v : View NodeState) (line : List ℕ) → IsRunPlan plan
+    → p < plan.nodes
     → v.face ≡ ready (face_left (scene_in plan) (drop t (phases_in plan))) p → HoldsAt plan (drop t (phases_in plan)) p v.state
     → v.state.at.activity ≡ Output j → line ≡ line_at v → IsPutOut plan t p j v line
 is_put_out goes can plan t p j v line is less row holds at text =
@@ -228,7 +209,8 @@ is_put_out goes can plan t p j v line is less row holds at text =
     let drops : drop t (phases_in plan) ≡ f ∷ later = h.phases_are in
     let came : v.face ≡ face_done s f p = row ∙ ap (λ fs. ready (face_left s fs) p) drops ∙ letters_come_in s f later p less in
     let me : v.face.me ≡ p = ap (λ (x : Face). x.me) came in
-    let phases : v.face.left ≡ length h.names + 1 = ap (λ (x : Face). x.left) came ∙ ap (λ n. n + 1) (outputs_count plan past (j + 1) h.names) in
+    let phases : v.face.left ≡ length h.names + 1 = ap (λ (x : Face). x.left) came
+    ∙ ap (λ n. n + 1) (outputs_count plan past (j + 1) h.names) in
     let held : Held = record (held_of v.state) { own = v.state.at.own } in
     let now : AtPhase s (run_in plan) f p held = record {
       stands = stands_beside s past p (held_of v.state) v.state.text v.state.at.own h.knows.stands;
@@ -241,7 +223,8 @@ is_put_out goes can plan t p j v line is less row holds at text =
     } in
     let steps = completed_first plan in
     let fits = (can plan past steps.0 is.checked is.store steps.1 h.knows.history).fits in
-    let names : drop (j + 1) plan.checked.outputs ≡ h.names = ap (λ n. drop n plan.checked.outputs) (add-one j) ∙ drop_first j plan.checked.outputs h.name h.names h.named in
+    let names : drop (j + 1) plan.checked.outputs ≡ h.names = ap (λ n. drop n plan.checked.outputs) (add-one j)
+    ∙ drop_first j plan.checked.outputs h.name h.names h.named in
     record {
       session = holds.session;
       few = drop_within j plan.checked.outputs h.name h.names h.named;
@@ -286,7 +269,8 @@ still_small left few = omega (arith, few)
 -- ---- what was entered is right
 
 -- what is looked at is what is held
-pub is_here : (plan : RunPlan) (st : NodeState) (me : ℕ) (line : List ℕ) (b : Between) → st.session ≡ session_in plan → LooksAt st me b → IsHere plan b (held_of (with_line st line))
+pub is_here : (plan : RunPlan) (st : NodeState) (me : ℕ) (line : List ℕ) (b : Between) → st.session ≡ session_in plan → LooksAt st me b
+    → IsHere plan b (held_of (with_line st line))
 is_here plan st me line b session look = record {
   checked = look.checked ∙ ap (λ (x : Session). x.checked) session;
   nodes = look.nodes ∙ ap (λ (x : Session). x.nodes) session;
@@ -317,29 +301,34 @@ EntersOutput st me number left e =
 few_steps : (n m : ℕ) → n ≡ m → m ≤ 20000 → n < 2 ^ 32
 few_steps n m e h = omega (arith, e, h)
 
-pub print_right : (plan : RunPlan) (t p : ℕ) (v : View NodeState) (line : List ℕ) (b : Between) (number left : ℕ) (e : Entered) → IsRunPlan plan → IsPrinted plan t p v line
+pub print_right : (plan : RunPlan) (t p : ℕ) (v : View NodeState) (line : List ℕ) (b : Between) (number left : ℕ) (e : Entered)
+    → IsRunPlan plan → IsPrinted plan t p v line
     → LooksAt v.state v.face.me b → (v.state.at.execution < 2 ^ 32 → number ≡ v.state.at.execution + 1) → left + 1 ≡ v.face.left
     → EntersNext v.state b number left e → IsRight plan (drop (t + 1) (phases_in plan)) p e (with_line v.state line)
 print_right plan t p v line b number left e is h look counts one enters =
     let past = Print v.state.at.site ∷ h.past in
     let st = with_line v.state line in
     let me : b.me ≡ p = look.node ∙ h.me in
-    let numbered : number ≡ length past = counts (few_steps v.state.at.execution (length h.past) h.number h.few) ∙ ap (λ n. n + 1) h.number ∙ add-one (length h.past) in
+    let numbered : number ≡ length past = counts (few_steps v.state.at.execution (length h.past) h.number h.few)
+    ∙ ap (λ n. n + 1) h.number ∙ add-one (length h.past) in
     let right = enters plan past h.rest st is h.session numbered (is_here plan v.state v.face.me line b h.session look) refl
     (subst (λ n. IsNext plan past h.rest n left st) (sym me) (h.next left one)) in
     subst (λ n. IsRight plan (drop (t + 1) (phases_in plan)) n e st) me (subst (λ fs. IsRight plan fs b.me e st) (sym h.left) right)
 
-pub output_right : (plan : RunPlan) (t p j : ℕ) (v : View NodeState) (line : List ℕ) (number left : ℕ) (e : Entered) → IsRunPlan plan → IsPutOut plan t p j v line
+pub output_right : (plan : RunPlan) (t p j : ℕ) (v : View NodeState) (line : List ℕ) (number left : ℕ) (e : Entered) → IsRunPlan plan
+    → IsPutOut plan t p j v line
     → (j + 1 < 2 ^ 32 → number ≡ j + 1) → left + 1 ≡ v.face.left
     → EntersOutput v.state v.face.me number left e → IsRight plan (drop (t + 1) (phases_in plan)) p e (with_line v.state line)
 output_right plan t p j v line number left e is h counts one enters =
     let st = with_line v.state line in
     let numbered : number ≡ j + 1 = counts (few_arrays (j + 1) (length plan.checked.outputs) h.few is.within.outputs) in
     let right = enters plan st is h.session
-    (subst (λ n. IsBehindSteps plan n v.face.me left st) (sym numbered) (subst (λ n. IsBehindSteps plan (j + 1) n left st) (sym h.me) (h.next left one))) refl refl in
+    (subst (λ n. IsBehindSteps plan n v.face.me left st) (sym numbered) (subst (λ n. IsBehindSteps plan (j + 1) n left st) (sym h.me)
+    (h.next left one))) refl refl in
     let past = completed_of (run_in plan) in
     subst (λ n. IsRight plan (drop (t + 1) (phases_in plan)) n e st) h.me
-    (subst (λ fs. IsRight plan fs v.face.me e st) (ap (λ n. outputs_left plan past n (drop n plan.checked.outputs)) numbered ∙ sym h.left) right)
+    (subst (λ fs. IsRight plan fs v.face.me e st) (ap (λ n. outputs_left plan past n (drop n plan.checked.outputs)) numbered
+    ∙ sym h.left) right)
   where
     few_arrays : (n m : ℕ) → n ≤ m → m ≤ 16777216 → n < 2 ^ 32
     few_arrays n m a b = omega (arith, a, b)

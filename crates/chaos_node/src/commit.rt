@@ -66,7 +66,8 @@ impl<'a> Node<'a> {
     /// Takes a note back.
     fn unnote(&mut self, begins: bool)
         ensures face { self.new.face ≡ self.old.face }
-        ensures state { (execution : ℕ) (before : List ℤ) → self.old.state.inspected ≡ noted begins execution before → self.new.state ≡ record self.old.state { inspected = before } }
+        ensures state { (execution : ℕ) (before : List ℤ) → self.old.state.inspected ≡ noted begins execution before
+            → self.new.state ≡ record self.old.state { inspected = before } }
     {
         if begins {
             let numbers = std::mem::replace(&mut self.inspected, Numbers::new(self.alloc));
@@ -87,7 +88,11 @@ impl<'a> Node<'a> {
     /// Puts what the phase has changed of the holdings in place.
     fn take_changes(&mut self, effect: Effect)
         ensures face { self.new.face ≡ self.old.face }
-        ensures state { self.new.state ≡ record self.old.state { holdings = holdings_after self.old.state.session.checked self.old.state.at.site effect self.old.state.holdings; end = end_after self.old.state.at.site effect self.old.state.end } }
+        ensures state { self.new.state ≡ record self.old.state {
+          holdings = holdings_after self.old.state.session.checked
+              self.old.state.at.site effect self.old.state.holdings;
+          end = end_after self.old.state.at.site effect self.old.state.end;
+        } }
     {
         take_effect(
             &mut self.holdings,

@@ -16,11 +16,11 @@ use chaos_facts::{facts_are_known, facts_of};
 use chaos_holdings::{
     Effect, count_at, counted, is_latest, kept_of, records_of_execution, turn_at,
 };
-use chaos_places::taken_lists;
 use chaos_records::notes_keep_the_past;
 use chaos_sched::Prepared;
 use fd_program::{LoopTurn, SiteCount};
 use fd_words::{Bytes, Memory};
+use plan_walk::taken_lists;
 
 impl<'a> Node<'a> {
     /// The turn of the present execution of a FORALL.

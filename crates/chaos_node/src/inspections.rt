@@ -5,8 +5,8 @@ ghost use Rattle.chaos_entering.specs.declared.activity.Activity.TheVariants as 
 ghost use Rattle.chaos_inspect.specs.Inspecting.{offence_in, phase_of};
 ghost use Rattle.chaos_inspect.specs.declared.inspection.Inspection.{Inspection as AnInspection};
 ghost use Rattle.chaos_hash.specs.Stamps.{Stamps};
-ghost use Rattle.chaos_reach.specs.Accepted.{IsAccepted};
-ghost use Rattle.chaos_run.specs.Held.{text_on};
+ghost use Rattle.inspect_uses.specs.Accepted.{IsAccepted};
+ghost use Rattle.plan_run.specs.Held.{text_on};
 ghost use Rattle.fd_program.specs.Texts.{refusal_line as the_refusal_line};
 ghost use Rattle.chaos_node.specs.Changing.{CanBeMade, ChangesRight};
 ghost use Rattle.chaos_node.specs.Inspections.{EndsPhase};
@@ -17,13 +17,13 @@ use chaos_entering::{enter_gather, enter_inspection, enter_output};
 use chaos_facts::{copy_facts, facts_are_known};
 use chaos_holdings::Effect;
 use chaos_inspect::Inspection;
-use chaos_places::taken_lists;
-use chaos_prepare::TableSet;
 use chaos_records::records_are_exact;
-use chaos_run::{Kept, others_stay_prepared};
 use fd_program::Refused;
 use fd_report::refusal_line;
 use fd_words::{Bytes, Memory, Offence};
+use node_tables::TableSet;
+use plan_run::{Kept, others_stay_prepared};
+use plan_walk::taken_lists;
 
 impl<'a> Node<'a> {
     /// Ends a phase of an inspection: the next one follows, or the FORALL is refused or executed.
@@ -180,7 +180,8 @@ impl<'a> Node<'a> {
     fn outputs_left(&self) -> u32
         requires work { next_of self.now.face ≡ Work }
         ensures falls { result < self.now.face.left }
-        ensures is { length self.now.state.session.checked.outputs < self.now.face.left → result ≡ length self.now.state.session.checked.outputs }
+        ensures is { length self.now.state.session.checked.outputs < self.now.face.left
+            → result ≡ length self.now.state.session.checked.outputs }
     {
         let outputs = self.session.checked.outputs.len();
         if outputs < self.left as usize {

@@ -12,9 +12,9 @@ use chaos_entering::{enter_move, enter_next};
 use chaos_facts::facts_are_known;
 use chaos_holdings::{Effect, elements_after, pages_after, parts_after, records_of_move};
 use chaos_moving::Moving;
-use chaos_places::taken_lists;
 use chaos_records::notes_keep_the_past;
 use fd_words::{Bytes, Memory};
+use plan_walk::taken_lists;
 use std::alloc::Global;
 
 impl<'a> Node<'a> {

@@ -31,7 +31,7 @@ impl<'a> Node<'a> {
 
 impl<'a> Phased for Node<'a> {
     ghost use Rattle.chaos_entering.specs.State.{NodeState};
-    ghost use Rattle.chaos_run.specs.Rows.{IsRunPlan, RunPlan, node_row};
+    ghost use Rattle.plan_run.specs.Rows.{IsRunPlan, RunPlan, node_row};
     ghost use Rattle.chaos_entering.specs.Standing.{node_holds};
 
     ghost State = { NodeState };
@@ -69,7 +69,7 @@ impl<'a> Phased for Node<'a> {
         self.commit(change)
     }
 
-    ghost use Rattle.chaos_run.specs.RowLaws.{rows_meet, rows_fall};
+    ghost use Rattle.plan_run.specs.RowLaws.{rows_meet, rows_fall};
 
     ghost rows_meet = { λ plan h t. rows_meet plan h t };
 

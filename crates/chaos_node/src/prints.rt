@@ -64,7 +64,8 @@ impl<'a> Node<'a> {
 
     /// The line of the array that is printed.
     fn line(&self) -> Result<Bytes, Memory>
-        ensures { IfOk result (λ text. text ≡ print_text self.now.state.session.checked.arrays self.now.face.me self.now.state.at.site self.now.state.at.own self.now.face.got) }
+        ensures { IfOk result (λ text. text ≡ print_text self.now.state.session.checked.arrays self.now.face.me self.now.state.at.site
+            self.now.state.at.own self.now.face.got) }
     {
         print_line(
             self.alloc,

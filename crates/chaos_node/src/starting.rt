@@ -1,12 +1,12 @@
 ghost use Rattle.std.specs.Prelude.{◌≡◌, ◌^◌, ◌<◌, ◌≤◌, [], true, length, ◌↔◌, IfOk, IfSome, IsSome};
 ghost use Rattle.chaos_entering.specs.Coming.{CanStand, face_of, noted};
-ghost use Rattle.chaos_places.specs.Places.{whole_from};
+ghost use Rattle.plan_walk.specs.Places.{whole_from};
 ghost use Rattle.chaos_holdings.specs.Starting.{block_owners};
 ghost use Rattle.bsp_core.specs.Views.{next_of};
 ghost use Rattle.bsp_core.specs.declared.phased.Want.TheVariants.{Done};
 ghost use Rattle.fd_program.specs.Checks.{IsChecked};
 ghost use Rattle.fd_program.specs.Places.{parts_of};
-ghost use Rattle.chaos_run.specs.Rows.{IsRunPlan, RunPlan, node_row};
+ghost use Rattle.plan_run.specs.Rows.{IsRunPlan, RunPlan, node_row};
 ghost use Rattle.chaos_entering.specs.Standing.{node_holds, session_in};
 
 use crate::node::Node;
@@ -22,7 +22,8 @@ use std::alloc::Global;
 fn phases_left(alloc: Global, session: &Session) -> Result<u32, Memory>
     requires { IsChecked session.now.checked }
     ensures few { IfOk result (λ left. left < 2 ^ 31) }
-    ensures is { IfOk result (λ left. (plan : RunPlan) → IsRunPlan plan → session.now ≡ session_in plan → left ≡ length (whole_from plan [] session.now.trace)) }
+    ensures is { IfOk result (λ left. (plan : RunPlan) → IsRunPlan plan → session.now ≡ session_in plan
+        → left ≡ length (whole_from plan [] session.now.trace)) }
 {
     let phases = phases_of(
         alloc,
@@ -60,7 +61,14 @@ fn node_with<'a>(
     requires few { session.now.nodes ≤ 16 }
     requires stands { CanStand me session.now.nodes entered }
     ensures face { result.face ≡ face_of me session.now.nodes entered }
-    ensures state { result.state ≡ record { session = session.now; at = entered.at; holdings = holdings; text = []; inspected = []; end = end } }
+    ensures state { result.state ≡ record {
+      session = session.now;
+      at = entered.at;
+      holdings = holdings;
+      text = [];
+      inspected = [];
+      end = end;
+    } }
 {
     let Entered {
         at,
@@ -117,7 +125,8 @@ impl<'a> Node<'a> {
         requires few { session.now.nodes ≤ 16 }
         requires checked { IsChecked session.now.checked }
         ensures { IfOk result (λ node. (plan : RunPlan) → IsRunPlan plan → session.now ≡ session_in plan
-            → own ≡ parts_of plan.checked.arrays (block_owners plan.nodes plan.checked.layouts) plan.store id → (node.face ≡ node_row plan 0 id) × node_holds plan 0 id node.state) }
+            → own ≡ parts_of plan.checked.arrays (block_owners plan.nodes plan.checked.layouts) plan.store id
+            → (node.face ≡ node_row plan 0 id) × node_holds plan 0 id node.state) }
     {
         let left = phases_left(alloc, session)?;
         let end = NodeEnd {

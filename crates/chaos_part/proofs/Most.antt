@@ -1,13 +1,15 @@
 -- The lowest of the nodes that are most often among the owners.
 use Rattle.std.specs.Prelude.{find, nat_le, ◌==◌, ◌&&◌, count_by}
 use Rattle.std.specs.List.{list_all, range_with_len}
-use Rattle.std.proofs.Common.{◌≡◌, refl, ℕ, zero, suc, ◌+◌, ◌≤◌, ◌<◌, Bool, true, false, cond, List, length, get_or, Some, unwrap_or, ap, sym, ◌∙◌, arith, inl, inr}
+use Rattle.std.proofs.Common.{◌≡◌, refl, ℕ, zero, suc, ◌+◌, ◌≤◌, ◌<◌, Bool, true, false, cond, List, length, get_or, Some, unwrap_or, ap}
+use Rattle.std.proofs.Common.{sym, ◌∙◌, arith, inl, inr}
 use Rattle.std.proofs.lemmas.Bool.{cases_lt}
 use Rattle.std.proofs.lemmas.Bool.Decides.{nat_tests}
 use Rattle.chaos_dist.specs.Homes.{is_most, most_of}
 
 -- the first of n numbers from a that passes
-find_range : (p : ℕ → Bool) (a n b : ℕ) → a ≤ b → b < a + n → p b ≡ true → ((m : ℕ) → a ≤ m → m < b → p m ≡ false) → find p (range_with_len a n) ≡ Some b
+find_range : (p : ℕ → Bool) (a n b : ℕ) → a ≤ b → b < a + n → p b ≡ true → ((m : ℕ) → a ≤ m → m < b → p m ≡ false)
+    → find p (range_with_len a n) ≡ Some b
 find_range p a zero b low high passes fails = absurd (omega arith)
 find_range p a (suc n) b low high passes fails =
     elim (cases_lt a b) [
@@ -54,7 +56,8 @@ most_of-is nodes home owners inside none_more below_less =
     let count = λ (m : ℕ). count_by (λ o. o == m) owners in
     ap (λ o. unwrap_or o 0) (find_range (is_most nodes owners) 0 nodes home (omega arith) (omega arith)
     (all_range (λ m. nat_le (count m) (count home)) 0 nodes (λ m from to. no_more (count m) (count home) (none_more m (omega arith))))
-    (λ k from to. some_not (λ m. nat_le (count m) (count k)) 0 nodes home (omega arith) (omega arith) (more (count home) (count k) (below_less k to))))
+    (λ k from to. some_not (λ m. nat_le (count m) (count k)) 0 nodes home (omega arith) (omega arith)
+    (more (count home) (count k) (below_less k to))))
 
 -- the same, by the counts of the nodes
 pub most_of-counts : (counts owners : List ℕ) (nodes home : ℕ) → home < nodes → nodes ≤ length counts

@@ -1,10 +1,8 @@
-ghost use Rattle.std.specs.Prelude.{◌≡◌, ◌==◌, ◌≤◌, ◌<◌, slice_index, EachIndex, count_by};
+ghost use Rattle.std.specs.Prelude.{◌≡◌, ◌≤◌, ◌<◌};
 ghost use Rattle.chaos_dist.specs.Homes.{most_of};
 
+use chaos_dist::tally;
 use fd_words::Place;
-
-/// The most nodes that there can be.
-const MOST_NODES: usize = 16;
 
 /// The home of an iteration by the owner rule: the owner of its first statement's target.
 pub fn home_by_owner(first_target: Place) -> u32
@@ -29,18 +27,4 @@ pub fn home_by_most(owners: &[u32], nodes: u32) -> u32
         }
     }
     home as u32
-}
-
-/// How many of the owners each node is.
-fn tally(owners: &[u32]) -> [u64; MOST_NODES]
-    ensures { EachIndex result (λ node. slice_index result node ≡ count_by (λ o. o == node) owners.now) }
-{
-    let mut counts = [0; MOST_NODES];
-    for owner in owners {
-        let node = *owner as usize;
-        if node < MOST_NODES {
-            counts[node] += 1;
-        }
-    }
-    counts
 }

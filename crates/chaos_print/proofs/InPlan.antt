@@ -1,12 +1,13 @@
 -- An array printed at a phase of a plan.
-use Rattle.std.specs.Prelude.{◌≡◌, refl, ℕ, zero, suc, ◌+◌, ◌≤◌, ℤ, Bool, true, false, ◌==◌, if◌then◌else◌, List, [], ◌∷◌, ◌++◌, length, flat_map, reverse, slice_get, take, Option, Some, None}
+use Rattle.std.specs.Prelude.{◌≡◌, refl, ℕ, zero, suc, ◌+◌, ◌≤◌, ℤ, Bool, true, false, ◌==◌, if◌then◌else◌, List, [], ◌∷◌, ◌++◌, length}
+use Rattle.std.specs.Prelude.{flat_map, reverse, slice_get, take, Option, Some, None}
 use Rattle.std.specs.List.{AllByRecursion}
 use Rattle.std.proofs.Common.{ap, sym, ◌∙◌, subst, arith, add-one}
-use Rattle.std.proofs.lemmas.Grind.{reverse_onto}
 use Rattle.std.proofs.lemmas.List.{append_assoc, append-nil}
 use Rattle.std.proofs.lemmas.List.Concat.{flat_map-append}
 use Rattle.fd_words.specs.Lists.{list_at}
-use Rattle.chaos_execute.specs.Ready.{IsStepOf}
+use Rattle.fd_program.specs.ListLaws.{all_split, all_reversed}
+use Rattle.fd_program.specs.StepLaws.{IsStepOf}
 use Rattle.chaos_execute.proofs.Ready.{steps_are_of_the_program}
 use Rattle.fd_program.specs.Layouts.{store_at}
 use Rattle.fd_program.specs.Runs.{Run, after_step, refusal_of, run_from, run_past, stores_of}
@@ -18,9 +19,9 @@ use Rattle.fd_program.specs.declared.array.OutputName.{OutputName}
 use Rattle.fd_program.specs.declared.checked.Checked.{Checked}
 use Rattle.fd_program.specs.declared.refused.Refused.{Refused}
 use Rattle.fd_program.specs.declared.trace.Step.{Step}
-use Rattle.chaos_run.specs.Held.{Held, lines_of, text_at, text_on}
-use Rattle.chaos_run.specs.Phases.{Phase}
-use Rattle.chaos_run.specs.Rows.{RunPlan, run_in, scene_in}
+use Rattle.plan_run.specs.Held.{Held, lines_of, text_at, text_on}
+use Rattle.plan_run.specs.Phases.{Phase}
+use Rattle.plan_run.specs.Rows.{RunPlan, run_in, scene_in}
 use Rattle.chaos_print.specs.InPlan.{IsPrinting, OutputsBegin, OutputsEnd, OutputsGoOn, PlansCanPrint, PrintsGoOn, text_with}
 use Rattle.chaos_print.specs.InRun.{IsPrintStage}
 use Rattle.chaos_print.proofs.CameIn.{letters_came_in}
@@ -29,18 +30,9 @@ use Rattle.chaos_print.proofs.Owned.{elements_are_owned}
 
 -- ---- what a print builds on
 
-all_split : {A : Type 0} (P : A → Type 0) (xs ys : List A) → AllByRecursion P (xs ++ ys) → AllByRecursion P xs × AllByRecursion P ys
-all_split P [] ys h = (tt, h)
-all_split P (x ∷ xs) ys h = let rest = all_split P xs ys h.1 in ((h.0, rest.0), rest.1)
-
-all_reversed : {A : Type 0} (P : A → Type 0) (xs : List A) → AllByRecursion P (reverse xs) → AllByRecursion P xs
-all_reversed P [] h = tt
-all_reversed P (x ∷ xs) h =
-    let parts = all_split P (reverse xs) (x ∷ []) (subst (AllByRecursion P) (reverse_onto xs x []) h) in
-    (parts.1.0, all_reversed P xs parts.0)
-
 -- the stores of a run begin with the store before it
-first_past : (step : Step) (store : List (List ℤ)) (o : Option Refused) (rest : Run) → list_at (stores_of (run_past step store o rest)) 0 ≡ store
+first_past : (step : Step) (store : List (List ℤ)) (o : Option Refused) (rest : Run) → list_at (stores_of (run_past step store o rest)) 0
+    ≡ store
 first_past step store None rest = refl
 first_past step store (Some r) rest = refl
 
@@ -51,10 +43,13 @@ first_store c (step ∷ steps) store = first_past step store (refusal_of c step 
 pub plans_can_print : PlansCanPrint
 plans_can_print plan past rest known fits trace history =
     let s = scene_in plan in
-    let first : FitsStore plan.checked.arrays (store_at s []) = subst (FitsStore plan.checked.arrays) (sym (first_store plan.checked (trace_of plan.checked) plan.store)) fits in
-    let all : AllByRecursion (IsStepOf plan.checked) (reverse past ++ rest) = subst (AllByRecursion (IsStepOf plan.checked)) (sym trace) (steps_are_of_the_program plan.checked known) in
+    let first : FitsStore plan.checked.arrays (store_at s []) = subst (FitsStore plan.checked.arrays)
+    (sym (first_store plan.checked (trace_of plan.checked) plan.store)) fits in
+    let all : AllByRecursion (IsStepOf plan.checked) (reverse past ++ rest) = subst (AllByRecursion (IsStepOf plan.checked)) (sym trace)
+    (steps_are_of_the_program plan.checked known) in
     record {
-      owned = elements_are_owned s past first history (all_reversed (IsStepOf plan.checked) past (all_split (IsStepOf plan.checked) (reverse past) rest all).0);
+      owned = elements_are_owned s past first history (all_reversed (IsStepOf plan.checked) past
+          (all_split (IsStepOf plan.checked) (reverse past) rest all).0);
       fits = run_keeps_lengths s past history first;
     }
 
@@ -68,8 +63,10 @@ text_joined p before line = by (p == 0)
     by false = refl
 
 -- one line more
-line_more : (plan : RunPlan) (t p : ℕ) (f : Phase) (later : List Phase) (array : ℕ) (v : Held) → IsPrinting plan t p f later array v → IsPrintStage f.stage
-    → text_with plan t p array v ≡ text_on p (text_at (scene_in plan) (run_in plan) f.past f.stage ++ line_for plan.checked (store_at (scene_in plan) f.past) array)
+line_more : (plan : RunPlan) (t p : ℕ) (f : Phase) (later : List Phase) (array : ℕ) (v : Held) → IsPrinting plan t p f later array v
+    → IsPrintStage f.stage
+    → text_with plan t p array v ≡ text_on p (text_at (scene_in plan) (run_in plan) f.past f.stage ++ line_for plan.checked
+    (store_at (scene_in plan) f.past) array)
 line_more plan t p f later array v h st =
     let s = scene_in plan in
     let some : 1 ≤ plan.nodes = omega (arith, h.node) in
@@ -98,7 +95,8 @@ outputs_go_on plan t p f later o v j h e found last =
     let outs = λ (os : List OutputName). flat_map (output_line plan.checked run.last) os in
     let before = take j plan.checked.outputs in
     let line = line_for plan.checked (store_at s f.past) o.array in
-    let one : outs (o ∷ []) ≡ line = append-nil (output_line plan.checked run.last o) ∙ ap (λ store. line_for plan.checked store o.array) last in
+    let one : outs (o ∷ []) ≡ line = append-nil (output_line plan.checked run.last o)
+    ∙ ap (λ store. line_for plan.checked store o.array) last in
     let next : outs (take (j + 1) plan.checked.outputs) ≡ outs before ++ line =
     ap (λ n. outs (take n plan.checked.outputs)) (add-one j) ∙ ap outs (take_more plan.checked.outputs j o found)
     ∙ flat_map-append (output_line plan.checked run.last) before (o ∷ []) ∙ ap (λ (l : List ℕ). outs before ++ l) one in
@@ -116,4 +114,5 @@ take_whole {A} (x ∷ xs) = ap (λ (l : List A). x ∷ l) (take_whole xs)
 
 pub outputs_end : OutputsEnd
 outputs_end s run past =
-    ap (λ os. lines_of s past ++ refusal_text s.checked run.refused ++ flat_map (output_line s.checked run.last) os) (take_whole s.checked.outputs)
+    ap (λ os. lines_of s past ++ refusal_text s.checked run.refused ++ flat_map (output_line s.checked run.last) os)
+    (take_whole s.checked.outputs)

@@ -1,5 +1,6 @@
 -- The rows that a node finds beside its elements are those of the array.
-use Rattle.std.specs.Prelude.{◌≡◌, refl, ℕ, zero, suc, ◌+◌, ◌-◌, ◌≤◌, ◌<◌, ℤ, pos, negsuc, ◌+ℤ◌, ◌-ℤ◌, ◌≤ℤ◌, ◌<ℤ◌, Bool, true, false, ◌&&◌, ◌==◌, int_le, cond, List, [], ◌∷◌, ◌++◌, length, map, filter, flat_map, slice_get, unwrap_or, Some, None}
+use Rattle.std.specs.Prelude.{◌≡◌, refl, ℕ, zero, suc, ◌+◌, ◌-◌, ◌≤◌, ◌<◌, ℤ, pos, negsuc, ◌+ℤ◌, ◌-ℤ◌, ◌≤ℤ◌, ◌<ℤ◌, Bool, true, false, ◌&&◌}
+use Rattle.std.specs.Prelude.{◌==◌, int_le, cond, List, [], ◌∷◌, ◌++◌, length, map, filter, flat_map, slice_get, unwrap_or, Some, None}
 use Rattle.std.specs.List.{range_with_len}
 use Rattle.std.proofs.Common.{ap, sym, ◌∙◌, subst, arith, get_or, inl, inr}
 use Rattle.std.proofs.lemmas.Bool.{cases_lt}
@@ -17,9 +18,9 @@ use Rattle.fd_program.specs.Places.{decomposition_of, owner_for, part_of, parts_
 use Rattle.fd_program.specs.Stores.{array_at, element, is_within, no_array}
 use Rattle.fd_program.specs.declared.array.ArrayFacts.{ArrayFacts}
 use Rattle.fd_program.specs.declared.checked.Checked.{Checked}
-use Rattle.chaos_run.specs.Held.{elements_of}
-use Rattle.chaos_run.specs.Phases.{print_row, print_rows}
-use Rattle.chaos_run.specs.Picks.{pick_with}
+use Rattle.plan_run.specs.Held.{elements_of}
+use Rattle.plan_run.specs.Phases.{print_row, print_rows}
+use Rattle.plan_run.specs.Picks.{pick_with}
 use Rattle.chaos_print.specs.InRun.{RowsAreHeld}
 use Rattle.chaos_print.specs.Printing.{is_row, number_if, own_row, row_of, rows_of, rows_held}
 
@@ -29,19 +30,23 @@ rows_of_map : (a : ArrayFacts) (f : ℕ → ℤ) (es : List ℕ) → rows_of a (
 rows_of_map a f [] = refl
 rows_of_map a f (e ∷ es) = ap (λ (l : List ℤ). own_row a (pos e) (f e) ++ l) (rows_of_map a f es)
 
-none_among : (G : ℕ → List ℤ) (P : ℕ → Bool) (low k : ℕ) → ((e : ℕ) → low ≤ e → e < low + k → G e ≡ []) → flat_map G (filter P (range_with_len low k)) ≡ []
+none_among : (G : ℕ → List ℤ) (P : ℕ → Bool) (low k : ℕ) → ((e : ℕ) → low ≤ e → e < low + k → G e ≡ [])
+    → flat_map G (filter P (range_with_len low k)) ≡ []
 none_among G P low zero h = refl
 none_among G P low (suc k) h =
-    let rest : flat_map G (filter P (range_with_len (low + 1) k)) ≡ [] = none_among G P (low + 1) k (λ e l m. h e (omega arith) (omega arith)) in
+    let rest : flat_map G (filter P (range_with_len (low + 1) k)) ≡ [] =
+    none_among G P (low + 1) k (λ e l m. h e (omega arith) (omega arith)) in
     pick_with (λ es. flat_map G es ≡ []) (P low) (low ∷ filter P (range_with_len (low + 1) k)) (filter P (range_with_len (low + 1) k))
     (λ t. ap (λ (l : List ℤ). l ++ flat_map G (filter P (range_with_len (low + 1) k))) (h low (omega arith) (omega arith)) ∙ rest)
     (λ t. rest)
 
-both : (G H : ℕ → List ℤ) (b : Bool) (x y : ℕ) (fs hs : List ℕ) → G x ≡ H y → flat_map G fs ≡ flat_map H hs → flat_map G (cond b (x ∷ fs) fs) ≡ flat_map H (cond b (y ∷ hs) hs)
+both : (G H : ℕ → List ℤ) (b : Bool) (x y : ℕ) (fs hs : List ℕ) → G x ≡ H y → flat_map G fs ≡ flat_map H hs
+    → flat_map G (cond b (x ∷ fs) fs) ≡ flat_map H (cond b (y ∷ hs) hs)
 both G H true x y fs hs first rest = ap (λ (l : List ℤ). l ++ flat_map G fs) first ∙ ap (λ (l : List ℤ). H y ++ l) rest
 both G H false x y fs hs first rest = rest
 
-shifted : (G H : ℕ → List ℤ) (P Q : ℕ → Bool) (o low k : ℕ) → ((g : ℕ) → low ≤ g → g < low + k → P (g + o) ≡ Q g) → ((g : ℕ) → low ≤ g → g < low + k → G (g + o) ≡ H g)
+shifted : (G H : ℕ → List ℤ) (P Q : ℕ → Bool) (o low k : ℕ) → ((g : ℕ) → low ≤ g → g < low + k → P (g + o) ≡ Q g)
+    → ((g : ℕ) → low ≤ g → g < low + k → G (g + o) ≡ H g)
     → flat_map G (filter P (range_with_len (low + o) k)) ≡ flat_map H (filter Q (range_with_len low k))
 shifted G H P Q o low zero test row = refl
 shifted G H P Q o low (suc k) test row =
@@ -54,12 +59,15 @@ shifted G H P Q o low (suc k) test row =
     ∙ both G H (Q low) (low + o) low fs (filter Q (range_with_len (low + 1) k)) (row low (omega arith) (omega arith)) rest
 
 range_parts : (a m n : ℕ) → range_with_len a (m + n) ≡ range_with_len a m ++ range_with_len (a + m) n
-range_parts a zero n = ap (range_with_len a) (let e : 0 + n ≡ n = omega arith in e) ∙ ap (λ b. range_with_len b n) (let e : a ≡ a + 0 = omega arith in e)
+range_parts a zero n = ap (range_with_len a) (let e : 0 + n ≡ n = omega arith in e)
+    ∙ ap (λ b. range_with_len b n) (let e : a ≡ a + 0 = omega arith in e)
 range_parts a (suc m) n =
     ap (range_with_len a) (let e : suc m + n ≡ suc (m + n) = omega arith in e)
-    ∙ ap (λ (l : List ℕ). a ∷ l) (range_parts (a + 1) m n ∙ ap (λ b. range_with_len (a + 1) m ++ range_with_len b n) (let e : a + 1 + m ≡ a + suc m = omega arith in e))
+    ∙ ap (λ (l : List ℕ). a ∷ l) (range_parts (a + 1) m n ∙ ap (λ b. range_with_len (a + 1) m ++ range_with_len b n)
+    (let e : a + 1 + m ≡ a + suc m = omega arith in e))
 
-two_parts : (G : ℕ → List ℤ) (P : ℕ → Bool) (xs ys : List ℕ) → flat_map G (filter P (xs ++ ys)) ≡ flat_map G (filter P xs) ++ flat_map G (filter P ys)
+two_parts : (G : ℕ → List ℤ) (P : ℕ → Bool) (xs ys : List ℕ) → flat_map G (filter P (xs ++ ys)) ≡ flat_map G (filter P xs)
+    ++ flat_map G (filter P ys)
 two_parts G P xs ys = ap (flat_map G) (filter-append P xs ys) ∙ flat_map-append G (filter P xs) (filter P ys)
 
 -- the array's elements 1 to its extent stand behind o others, and before `rest` others
@@ -71,7 +79,8 @@ rows_shift G H P Q o extent rest low high test row =
     let before = range_with_len 1 o in
     let middle = range_with_len (1 + o) extent in
     let after = range_with_len (1 + o + extent) rest in
-    let cut : up_to (o + (extent + rest)) ≡ before ++ (middle ++ after) = range_parts 1 o (extent + rest) ∙ ap (λ (l : List ℕ). before ++ l) (range_parts (1 + o) extent rest) in
+    let cut : up_to (o + (extent + rest)) ≡ before ++ (middle ++ after) = range_parts 1 o (extent + rest)
+    ∙ ap (λ (l : List ℕ). before ++ l) (range_parts (1 + o) extent rest) in
     ap rows cut ∙ two_parts G P before (middle ++ after)
     ∙ ap (λ (l : List ℤ). l ++ rows (middle ++ after)) (none_among G P 1 o (λ e l m. low e (omega arith)))
     ∙ two_parts G P middle after
@@ -106,7 +115,8 @@ and_false false b = refl
 
 row_high : (extent : ℕ) (z : ℤ) → pos extent <ℤ z → is_row extent z ≡ false
 row_high extent z h =
-    ap (λ b. int_le (pos 1) z && b && int_le z (pos 9223372036854775807)) (le_false z (pos extent) h) ∙ and_false (int_le (pos 1) z) (int_le z (pos 9223372036854775807))
+    ap (λ b. int_le (pos 1) z && b && int_le z (pos 9223372036854775807)) (le_false z (pos extent) h)
+    ∙ and_false (int_le (pos 1) z) (int_le z (pos 9223372036854775807))
 
 row_in : (extent : ℕ) (z : ℤ) → pos 1 ≤ℤ z → z ≤ℤ pos extent → z ≤ℤ pos 9223372036854775807 → is_row extent z ≡ true
 row_in extent z low high most =
@@ -128,7 +138,8 @@ elements_for (o ∷ owners) p (suc d) = elements_for owners p d
 get_among : {A : Type 0} (f : ℕ → A) (a k n : ℕ) → k < n → slice_get (map f (range_with_len a n)) k ≡ Some (f (a + k))
 get_among f a k zero h = absurd (omega arith)
 get_among {A} f a zero (suc n) h = ap (λ x. Some (f x)) (let e : a ≡ a + 0 = omega arith in e)
-get_among {A} f a (suc k) (suc n) h = get_among f (a + 1) k n (less k n h) ∙ ap (λ x. Some (f x)) (let e : a + 1 + k ≡ a + suc k = omega arith in e)
+get_among {A} f a (suc k) (suc n) h = get_among f (a + 1) k n (less k n h)
+    ∙ ap (λ x. Some (f x)) (let e : a + 1 + k ≡ a + suc k = omega arith in e)
   where
     less : (k n : ℕ) → suc k < suc n → k < n
     less k n h = omega arith
@@ -148,9 +159,11 @@ length_among : {A : Type 0} (f : ℕ → A) (a n : ℕ) → length (map f (range
 length_among f a zero = refl
 length_among f a (suc n) = ap suc (length_among f (a + 1) n)
 
-parts_for : (arrays : List ArrayFacts) (owners : List (List ℕ)) (store : List (List ℤ)) (p a : ℕ) → a < length arrays → list_at (parts_of arrays owners store p) a ≡ part_of arrays owners store p a
+parts_for : (arrays : List ArrayFacts) (owners : List (List ℕ)) (store : List (List ℤ)) (p a : ℕ) → a < length arrays
+    → list_at (parts_of arrays owners store p) a ≡ part_of arrays owners store p a
 parts_for arrays owners store p a less =
-    ap (λ o. unwrap_or o []) (get_among (part_of arrays owners store p) 0 a (length arrays) less) ∙ ap (part_of arrays owners store p) (let e : 0 + a ≡ a = omega arith in e)
+    ap (λ o. unwrap_or o []) (get_among (part_of arrays owners store p) 0 a (length arrays) less)
+    ∙ ap (part_of arrays owners store p) (let e : 0 + a ≡ a = omega arith in e)
 
 get_is : (xs : List ArrayFacts) (k : ℕ) → unwrap_or (slice_get xs k) no_array ≡ get_or xs k no_array
 get_is [] k = refl
@@ -164,7 +177,8 @@ natural_is (negsuc n) h = absurd (omega (arith, ints))
 -- ---- an array
 
 -- of an array that is there
-rows_in : (c : Checked) (owners : List (List ℕ)) (store : List (List ℤ)) (p a : ℕ) → a < length c.arrays → IsAligned c.layouts (array_at c.arrays a)
+rows_in : (c : Checked) (owners : List (List ℕ)) (store : List (List ℤ)) (p a : ℕ) → a < length c.arrays
+    → IsAligned c.layouts (array_at c.arrays a)
     → length (list_at owners (decomposition_of c.arrays a)) ≡ layout_extent c.layouts (decomposition_of c.arrays a)
     → rows_held c.arrays (elements_of owners p) (parts_of c.arrays owners store p) a ≡ print_rows c owners store a p
 rows_in c all store p a less h size =
@@ -185,7 +199,8 @@ rows_in c all store p a less h size =
     (row_low facts.extent (pos e -ℤ facts.offset) (let k : (pos e -ℤ facts.offset) ≤ℤ pos 0 = omega (arith, ints, off, l) in k)) in
     let high : (e : ℕ) → o + facts.extent < e → G e ≡ [] = λ e l.
     ap (λ b. row_by (value_on c.arrays store a e) b (pos e -ℤ facts.offset))
-    (row_high facts.extent (pos e -ℤ facts.offset) (let k : pos facts.extent <ℤ (pos e -ℤ facts.offset) = omega (arith, ints, off, l) in k)) in
+    (row_high facts.extent (pos e -ℤ facts.offset) (let k : pos facts.extent <ℤ (pos e -ℤ facts.offset) = omega (arith, ints, off, l) in
+    k)) in
     let test : (g : ℕ) → 1 ≤ g → g ≤ facts.extent → P (g + o) ≡ Q g = λ g l m.
     let at : pos (g + o) ≡ (pos g +ℤ facts.offset) = omega (arith, ints, off) in
     ap (λ z. owner_in owners (natural z) == p) at in
@@ -193,12 +208,14 @@ rows_in c all store p a less h size =
     let here : (pos (g + o) -ℤ facts.offset) ≡ pos g = omega (arith, ints, off) in
     ap (λ b. row_by (value_on c.arrays store a (g + o)) b (pos (g + o) -ℤ facts.offset))
     (ap (is_row facts.extent) here
-    ∙ row_in facts.extent (pos g) (let k : pos 1 ≤ℤ pos g = omega (arith, ints, l) in k) (let k : pos g ≤ℤ pos facts.extent = omega (arith, ints, m) in k)
+    ∙ row_in facts.extent (pos g) (let k : pos 1 ≤ℤ pos g = omega (arith, ints, l) in k) (let k : pos g ≤ℤ pos facts.extent = omega
+    (arith, ints, m) in k)
     (let k : pos g ≤ℤ pos 9223372036854775807 = omega (arith, ints, m, h.extent.most) in k))
     ∙ ap (λ z. z ∷ value_on c.arrays store a (g + o) ∷ []) here
     ∙ ap (λ z. pos g ∷ cond (is_within c.arrays a z) (element store a z) (pos 0) ∷ []) here
     ∙ ap (λ b. pos g ∷ cond b (element store a (pos g)) (pos 0) ∷ [])
-    (within facts.extent (pos g) (let k : pos 1 ≤ℤ pos g = omega (arith, ints, l) in k) (let k : pos g ≤ℤ pos facts.extent = omega (arith, ints, m) in k)) in
+    (within facts.extent (pos g) (let k : pos 1 ≤ℤ pos g = omega (arith, ints, l) in k) (let k : pos g ≤ℤ pos facts.extent = omega
+    (arith, ints, m) in k)) in
     ap (λ es. rows_of facts es (list_at (parts_of c.arrays all store p) a)) (elements_for all p facts.decomposition)
     ∙ ap (rows_of facts (map pos (elements_on owners p))) (parts_for c.arrays all store p a less)
     ∙ rows_of_map facts (value_on c.arrays store a) (elements_on owners p)
@@ -215,15 +232,19 @@ own_rows : (c : Checked) (owners : List (List ℕ)) (store : List (List ℤ)) (p
     → rows_held c.arrays (elements_of owners p) (parts_of c.arrays owners store p) a ≡ print_rows c owners store a p
 own_rows c owners store p a h sizes = elim (cases_lt a (length c.arrays)) [
   | inl less ↦
-      let aligned : IsAligned c.layouts (array_at c.arrays a) = subst (IsAligned c.layouts) (sym (get_is c.arrays a)) (h.arrays a no_array less) in
+      let aligned : IsAligned c.layouts (array_at c.arrays a) = subst (IsAligned c.layouts) (sym (get_is c.arrays a))
+      (h.arrays a no_array less) in
       rows_in c owners store p a less aligned (sizes (decomposition_of c.arrays a) aligned.decomposition)
   | inr past ↦
       let none : array_at c.arrays a ≡ no_array = ap (λ o. unwrap_or o no_array) (get_past c.arrays a past) in
-      let short : length (parts_of c.arrays owners store p) ≤ a = subst (λ n. n ≤ a) (sym (length_among (part_of c.arrays owners store p) 0 (length c.arrays))) past in
-      let part : list_at (parts_of c.arrays owners store p) a ≡ [] = ap (λ o. unwrap_or o []) (get_past (parts_of c.arrays owners store p) a short) in
+      let short : length (parts_of c.arrays owners store p) ≤ a =
+      subst (λ n. n ≤ a) (sym (length_among (part_of c.arrays owners store p) 0 (length c.arrays))) past in
+      let part : list_at (parts_of c.arrays owners store p) a ≡ [] =
+      ap (λ o. unwrap_or o []) (get_past (parts_of c.arrays owners store p) a short) in
       let elements = list_at (elements_of owners p) (decomposition_of c.arrays a) in
       ap (rows_of (array_at c.arrays a) elements) part ∙ rows_without (array_at c.arrays a) elements
-      ∙ sym (ap (λ (facts : ArrayFacts). flat_map (print_row store a) (filter (λ g. owner_for c.arrays owners a (pos g) == p) (up_to facts.extent))) none)
+      ∙ sym (ap (λ (facts : ArrayFacts). flat_map (print_row store a) (filter (λ g. owner_for c.arrays owners a (pos g) == p)
+      (up_to facts.extent))) none)
 ]
 
 pub rows_are_held : RowsAreHeld

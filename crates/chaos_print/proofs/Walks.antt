@@ -19,14 +19,19 @@ drop_next : (xs : List ℤ) (k : ℕ) → k < length xs → drop k xs ≡ number
 drop_next xs k h = drop_number xs k h ∙ ap (λ n. number_at xs k ∷ drop n xs) (let z : suc k ≡ k + 1 = omega arith in z)
 
 -- one row more
-pub rows_kept : (a : ArrayFacts) (es vs rows new total : List ℤ) (k : ℕ) (e v : ℤ) → k < length es → k < length vs → e ≡ number_at es k → v ≡ number_at vs k
-    → rows ++ rows_of a (drop k es) (drop k vs) ≡ total → new ≡ rows ++ own_row a e v → new ++ rows_of a (drop (k + 1) es) (drop (k + 1) vs) ≡ total
+pub rows_kept : (a : ArrayFacts) (es vs rows new total : List ℤ) (k : ℕ) (e v : ℤ) → k < length es → k < length vs → e ≡ number_at es k
+    → v ≡ number_at vs k
+    → rows ++ rows_of a (drop k es) (drop k vs) ≡ total → new ≡ rows ++ own_row a e v
+    → new ++ rows_of a (drop (k + 1) es) (drop (k + 1) vs) ≡ total
 rows_kept a es vs rows new total k e v in_es in_vs e_is v_is before more =
     let rest = rows_of a (drop (k + 1) es) (drop (k + 1) vs) in
     let here : rows_of a (drop k es) (drop k vs) ≡ own_row a (number_at es k) (number_at vs k) ++ rest =
-    ap (λ l. rows_of a l (drop k vs)) (drop_next es k in_es) ∙ ap (λ l. rows_of a (number_at es k ∷ drop (k + 1) es) l) (drop_next vs k in_vs) in
-    let row : own_row a e v ≡ own_row a (number_at es k) (number_at vs k) = ap (λ z. own_row a z v) e_is ∙ ap (λ z. own_row a (number_at es k) z) v_is in
-    ap (λ (l : List ℤ). l ++ rest) (more ∙ ap (λ (l : List ℤ). rows ++ l) row) ∙ append_assoc rows (own_row a (number_at es k) (number_at vs k)) rest
+    ap (λ l. rows_of a l (drop k vs)) (drop_next es k in_es) ∙ ap (λ l. rows_of a (number_at es k ∷ drop (k + 1) es) l)
+    (drop_next vs k in_vs) in
+    let row : own_row a e v ≡ own_row a (number_at es k) (number_at vs k) = ap (λ z. own_row a z v) e_is
+    ∙ ap (λ z. own_row a (number_at es k) z) v_is in
+    ap (λ (l : List ℤ). l ++ rest) (more ∙ ap (λ (l : List ℤ). rows ++ l) row)
+    ∙ append_assoc rows (own_row a (number_at es k) (number_at vs k)) rest
     ∙ ap (λ (l : List ℤ). rows ++ l) (sym here) ∙ before
 
 rows_nil : (a : ArrayFacts) (es : List ℤ) → rows_of a es [] ≡ []
@@ -48,16 +53,19 @@ rows_over a (e ∷ es) (v ∷ vs) (suc k) h = rows_over a es vs k (less (length 
     less m n k h = omega arith
 
 -- no row more
-pub rows_ended : (a : ArrayFacts) (es vs rows total : List ℤ) (k : ℕ) → min (length es) (length vs) ≤ k → rows ++ rows_of a (drop k es) (drop k vs) ≡ total → rows ≡ total
+pub rows_ended : (a : ArrayFacts) (es vs rows total : List ℤ) (k : ℕ) → min (length es) (length vs) ≤ k
+    → rows ++ rows_of a (drop k es) (drop k vs) ≡ total → rows ≡ total
 rows_ended a es vs rows total k over all =
     sym (append-nil rows) ∙ ap (λ (l : List ℤ). rows ++ l) (sym (rows_over a es vs k over)) ∙ all
 
 -- one row more is put in
-pub fill_kept : (values new rows total : List ℤ) (k p : ℕ) (z v : ℤ) → k < length rows / 2 → z ≡ number_at rows (2 * k) → v ≡ number_at rows (2 * k + 1) → p ≡ place_of z
+pub fill_kept : (values new rows total : List ℤ) (k p : ℕ) (z v : ℤ) → k < length rows / 2 → z ≡ number_at rows (2 * k)
+    → v ≡ number_at rows (2 * k + 1) → p ≡ place_of z
     → filled values (drop (2 * k) rows) ≡ total → new ≡ slice_set values p v → filled new (drop (2 * (k + 1)) rows) ≡ total
 fill_kept values new rows total k p z v less z_is v_is p_is before set =
     let first : drop (2 * k) rows ≡ number_at rows (2 * k) ∷ drop (2 * k + 1) rows = drop_next rows (2 * k) (omega (arith, less)) in
-    let second : drop (2 * k + 1) rows ≡ number_at rows (2 * k + 1) ∷ drop (2 * k + 1 + 1) rows = drop_next rows (2 * k + 1) (omega (arith, less)) in
+    let second : drop (2 * k + 1) rows ≡ number_at rows (2 * k + 1) ∷ drop (2 * k + 1 + 1) rows =
+    drop_next rows (2 * k + 1) (omega (arith, less)) in
     let rest = drop (2 * (k + 1)) rows in
     let behind : drop (2 * k + 1 + 1) rows ≡ rest = ap (λ n. drop n rows) (let e : 2 * k + 1 + 1 ≡ 2 * (k + 1) = omega arith in e) in
     let both : drop (2 * k) rows ≡ z ∷ v ∷ rest =
@@ -91,8 +99,10 @@ abbrev pub numbers_of : List Letter → List (List ℤ)
 numbers_of letters = map (λ (x : Letter). x.numbers) letters
 
 -- one letter more
-pub letters_kept : (values new numbers total : List ℤ) (letters : List Letter) (k : ℕ) (x : Letter) → k < length letters → x ≡ get_or letters k x → numbers ≡ x.numbers
-    → filled_all values (numbers_of (drop k letters)) ≡ total → new ≡ filled values numbers → filled_all new (numbers_of (drop (k + 1) letters)) ≡ total
+pub letters_kept : (values new numbers total : List ℤ) (letters : List Letter) (k : ℕ) (x : Letter) → k < length letters
+    → x ≡ get_or letters k x → numbers ≡ x.numbers
+    → filled_all values (numbers_of (drop k letters)) ≡ total → new ≡ filled values numbers
+    → filled_all new (numbers_of (drop (k + 1) letters)) ≡ total
 letters_kept values new numbers total letters k x less here same before fill =
     ap (λ (l : List ℤ). filled_all l (numbers_of (drop (k + 1) letters))) (fill ∙ ap (filled values) same)
     ∙ ap (λ l. filled_all values (numbers_of l)) (sym (drop_letter letters k x less here)) ∙ before
@@ -109,5 +119,6 @@ drop_over (x ∷ xs) (suc k) h = drop_over xs k (less (length xs) k h)
     less : (n k : ℕ) → suc n ≤ suc k → n ≤ k
     less n k h = omega arith
 
-pub letters_ended : (values total : List ℤ) (letters : List Letter) (k : ℕ) → length letters ≤ k → filled_all values (numbers_of (drop k letters)) ≡ total → values ≡ total
+pub letters_ended : (values total : List ℤ) (letters : List Letter) (k : ℕ) → length letters ≤ k
+    → filled_all values (numbers_of (drop k letters)) ≡ total → values ≡ total
 letters_ended values total letters k over all = ap (λ l. filled_all values (numbers_of l)) (sym (drop_over letters k over)) ∙ all

@@ -11,10 +11,10 @@ use Rattle.fd_program.specs.Trace.{trace_of}
 use Rattle.fd_program.specs.declared.array.OutputName.{OutputName}
 use Rattle.fd_program.specs.declared.trace.Step.{Step}
 use Rattle.fd_program.specs.declared.trace.Step.TheVariants.{Print}
-use Rattle.chaos_run.specs.Held.{AtPhase, Held, lines_of, text_at, text_on, whole_text}
-use Rattle.chaos_run.specs.Phases.{Phase}
-use Rattle.chaos_run.specs.Rows.{RunPlan, node_row, phases_in, run_in, scene_in}
-use Rattle.chaos_run.specs.declared.stage.Stage.TheVariants as stage
+use Rattle.plan_run.specs.Held.{AtPhase, Held, lines_of, text_at, text_on, whole_text}
+use Rattle.plan_run.specs.Phases.{Phase}
+use Rattle.plan_run.specs.Rows.{RunPlan, node_row, phases_in, run_in, scene_in}
+use Rattle.plan_run.specs.declared.stage.Stage.TheVariants as stage
 use Rattle.chaos_print.specs.InRun.{AreAllOwned}
 use Rattle.chaos_print.specs.Printing.{print_text}
 
@@ -48,7 +48,8 @@ text_with plan t p array v = v.text ++ print_text plan.checked.arrays p array v.
 -- behind a PRINT it is that of the steps with this one
 abbrev pub PrintsGoOn : Type 0
 PrintsGoOn =
-    (plan : RunPlan) (t p : ℕ) (f : Phase) (later : List Phase) (array : ℕ) (v : Held) → IsPrinting plan t p f later array v → f.stage ≡ stage.Print
+    (plan : RunPlan) (t p : ℕ) (f : Phase) (later : List Phase) (array : ℕ) (v : Held) → IsPrinting plan t p f later array v
+    → f.stage ≡ stage.Print
     → text_with plan t p array v ≡ text_on p (lines_of (scene_in plan) (Print array ∷ f.past))
 
 -- behind the j-th array of OUTPUT, over the last store, it is that of the next
@@ -65,4 +66,5 @@ OutputsBegin =
     (s : Scene) (run : Run) (past : List Step) → text_at s run past (stage.Output 0) ≡ lines_of s past ++ refusal_text s.checked run.refused
 
 abbrev pub OutputsEnd : Type 0
-OutputsEnd = (s : Scene) (run : Run) (past : List Step) → text_at s run past (stage.Output (length s.checked.outputs)) ≡ whole_text s run past
+OutputsEnd = (s : Scene) (run : Run) (past : List Step) → text_at s run past (stage.Output (length s.checked.outputs))
+    ≡ whole_text s run past

@@ -4,7 +4,7 @@ use Rattle.std.specs.List.{AllByRecursion}
 use Rattle.fd_words.specs.Lists.{list_at}
 use Rattle.bsp_core.specs.Views.{ready}
 use Rattle.chaos_dist.specs.Counting.{below}
-use Rattle.chaos_execute.specs.Ready.{IsStepOf}
+use Rattle.fd_program.specs.StepLaws.{IsStepOf}
 use Rattle.chaos_letter.specs.declared.letter.Letter.{Letter}
 use Rattle.fd_program.specs.Checks.{IsChecked, layout_extent}
 use Rattle.fd_program.specs.Layouts.{Scene, owners_at, store_at}
@@ -13,11 +13,11 @@ use Rattle.fd_program.specs.Stores.{FitsStore}
 use Rattle.fd_program.specs.Texts.{line_for}
 use Rattle.fd_program.specs.declared.trace.Step.{Step}
 use Rattle.fd_program.specs.declared.trace.Step.TheVariants.{Print}
-use Rattle.chaos_run.specs.Held.{Held, Stands, text_on}
-use Rattle.chaos_run.specs.Phases.{Phase, is_sent, letter_of, numbers_at, print_rows}
-use Rattle.chaos_run.specs.Rows.{RunPlan, node_row, phases_in, scene_in}
-use Rattle.chaos_run.specs.declared.stage.Stage.{Stage}
-use Rattle.chaos_run.specs.declared.stage.Stage.TheVariants as stage
+use Rattle.plan_run.specs.Held.{Held, Stands, text_on}
+use Rattle.plan_run.specs.Phases.{Phase, is_sent, letter_of, numbers_at, print_rows}
+use Rattle.plan_run.specs.Rows.{RunPlan, node_row, phases_in, scene_in}
+use Rattle.plan_run.specs.declared.stage.Stage.{Stage}
+use Rattle.plan_run.specs.declared.stage.Stage.TheVariants as stage
 use Rattle.chaos_print.specs.Printing.{print_text, rows_held}
 
 -- ---- rows
@@ -29,7 +29,8 @@ AreAllOwned s past = (d : ℕ) → d < length s.checked.layouts → length (list
 -- so it is at each step of a run
 abbrev pub ElementsAreOwned : Type 0
 ElementsAreOwned =
-    (s : Scene) (past : List Step) → FitsStore s.checked.arrays (store_at s []) → IsHistory s past → AllByRecursion (IsStepOf s.checked) past
+    (s : Scene) (past : List Step) → FitsStore s.checked.arrays (store_at s []) → IsHistory s past
+    → AllByRecursion (IsStepOf s.checked) past
     → AreAllOwned s past
 
 -- the rows of what a node holds are those of the array

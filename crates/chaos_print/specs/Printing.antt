@@ -1,5 +1,6 @@
 -- The rows of an array on a node, the array from the rows of all nodes, and the text that a node writes of it.
-use Rattle.std.specs.Prelude.{ℕ, ℤ, pos, ◌-ℤ◌, Bool, ◌&&◌, ◌==◌, int_le, if◌then◌else◌, List, [], ◌∷◌, ◌++◌, map, replicate, slice_set, Option, Some, None}
+use Rattle.std.specs.Prelude.{ℕ, ℤ, pos, ◌-ℤ◌, Bool, ◌&&◌, ◌==◌, int_le, if◌then◌else◌, List, [], ◌∷◌, ◌++◌, map, replicate, slice_set}
+use Rattle.std.specs.Prelude.{Option, Some, None}
 use Rattle.fd_words.specs.Lists.{list_at}
 use Rattle.chaos_letter.specs.declared.letter.Letter.{Letter}
 use Rattle.fd_program.specs.Places.{decomposition_of}
@@ -29,7 +30,8 @@ rows_of a _ _ = []
 
 -- the rows of an array on a node, whose elements and local parts these are
 abbrev pub rows_held : List ArrayFacts → List (List ℤ) → List (List ℤ) → ℕ → List ℤ
-rows_held arrays elements parts array = rows_of (array_at arrays array) (list_at elements (decomposition_of arrays array)) (list_at parts array)
+rows_held arrays elements parts array = rows_of (array_at arrays array) (list_at elements (decomposition_of arrays array))
+    (list_at parts array)
 
 -- the value of each row at its element
 abbrev pub filled : List ℤ → List ℤ → List ℤ
@@ -45,5 +47,6 @@ filled_all values (rows ∷ rest) = filled_all (filled values rows) rest
 abbrev pub print_text : List ArrayFacts → ℕ → ℕ → List ℤ → List Letter → List ℕ
 print_text arrays me array own got =
     if me == 0
-    then line_of (array_at arrays array).name (filled_all (replicate (array_at arrays array).extent (pos 0)) (own ∷ map (λ (x : Letter). x.numbers) got))
+    then line_of (array_at arrays array).name (filled_all (replicate (array_at arrays array).extent (pos 0))
+    (own ∷ map (λ (x : Letter). x.numbers) got))
     else []

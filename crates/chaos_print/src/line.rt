@@ -4,10 +4,10 @@ ghost use Rattle.fd_program.specs.Stores.{place_of};
 ghost use Rattle.fd_program.specs.Texts.{line_of as the_line};
 ghost use Rattle.chaos_print.specs.Printing.{filled, filled_all, print_text};
 
-use crate::rows::{at, facts_at};
+use crate::rows::at;
 use chaos_letter::Letter;
 use fd_data::line_of;
-use fd_program::{ArrayFacts, ArrayList};
+use fd_program::{ArrayFacts, ArrayList, array_at};
 use fd_words::{Bytes, Memory, Numbers};
 use std::alloc::Global;
 
@@ -29,17 +29,6 @@ fn fill(values: &mut Numbers, rows: &[i64])
     }
 }
 
-/// So many zeros.
-fn zeros(alloc: Global, count: u64) -> Result<Numbers, Memory>
-    ensures { IfOk result (λ values. values ≡ replicate count (pos 0)) }
-{
-    let mut values = Numbers::new(alloc);
-    for _zero in 0..count {
-        values.push(0)?;
-    }
-    Ok(values)
-}
-
 /// All values of an array: a node's own rows are put in first, then those of the letters in order.
 fn values_of(
     alloc: Global,
@@ -47,9 +36,10 @@ fn values_of(
     own: &Numbers,
     letters: &[Letter],
 ) -> Result<Numbers, Memory>
-    ensures { IfOk result (λ values. values ≡ filled_all (filled (replicate extent (pos 0)) own.now) (map (λ (x : ALetter). x.numbers) letters.now)) }
+    ensures { IfOk result (λ values. values ≡ filled_all (filled (replicate extent (pos 0)) own.now)
+        (map (λ (x : ALetter). x.numbers) letters.now)) }
 {
-    let mut values = zeros(alloc, extent)?;
+    let mut values = Numbers::zeros(alloc, extent)?;
     fill(&mut values, own.as_slice());
     'letters: for letter in letters {
         fill(&mut values, letter.numbers.as_slice());
@@ -64,7 +54,8 @@ fn line_from(
     own: &Numbers,
     letters: &[Letter],
 ) -> Result<Bytes, Memory>
-    ensures { IfOk result (λ line. line ≡ the_line facts.now.name (filled_all (replicate facts.now.extent (pos 0)) (own.now ∷ map (λ (x : ALetter). x.numbers) letters.now))) }
+    ensures { IfOk result (λ line. line ≡ the_line facts.now.name (filled_all (replicate facts.now.extent (pos 0))
+        (own.now ∷ map (λ (x : ALetter). x.numbers) letters.now))) }
 {
     let values = values_of(alloc, facts.extent, own, letters)?;
     line_of(alloc, &facts.name, &values)
@@ -83,7 +74,7 @@ pub fn print_line(
     ensures { IfOk result (λ text. text ≡ print_text arrays.now me array own.now got.now) }
 {
     if me == 0 {
-        line_from(alloc, &facts_at(arrays, array), own, got)
+        line_from(alloc, &array_at(arrays.as_slice(), array), own, got)
     } else {
         Ok(Bytes::new(alloc))
     }

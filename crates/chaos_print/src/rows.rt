@@ -3,8 +3,8 @@ ghost use Rattle.fd_program.specs.Stores.{array_at, number_at};
 ghost use Rattle.fd_words.specs.Lists.{list_at};
 ghost use Rattle.chaos_print.specs.Printing.{is_row, number_if, own_row, rows_held, rows_of};
 
-use fd_program::{ArrayFacts, ArrayList};
-use fd_words::{Memory, Name, NumberLists, Numbers};
+use fd_program::{ArrayFacts, ArrayList, array_at};
+use fd_words::{Memory, NumberLists, Numbers};
 use std::alloc::Global;
 
 /// A number, if it is one of the elements 1 to the extent and can stand in a row.
@@ -70,21 +70,6 @@ fn rows_on(
     Ok(rows)
 }
 
-/// The facts of the array with this number; from the end on those of one without elements.
-pub fn facts_at(arrays: &ArrayList, array: u32) -> ArrayFacts
-    ensures { result ≡ array_at arrays.now array }
-{
-    match arrays.get(array as usize) {
-        Some(facts) => *facts,
-        None => ArrayFacts {
-            name: Name::new(),
-            extent: 0,
-            decomposition: 0,
-            offset: 0,
-        },
-    }
-}
-
 /// The list at a place, empty from the end on.
 fn list_in(lists: &NumberLists, at: u32) -> &[i64]
     ensures { result.now ≡ list_at lists.now at }
@@ -107,7 +92,7 @@ pub fn print_rows(
 ) -> Result<Numbers, Memory>
     ensures { IfOk result (λ rows. rows ≡ rows_held arrays.now elements.now parts.now array) }
 {
-    let facts = facts_at(arrays, array);
+    let facts = array_at(arrays.as_slice(), array);
     let elements = list_in(elements, facts.decomposition);
     rows_on(alloc, &facts, elements, list_in(parts, array))
 }

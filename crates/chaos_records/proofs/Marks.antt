@@ -1,10 +1,11 @@
 -- The numbers that references name, marked one reference after another.
-use Rattle.std.specs.Prelude.{◌≡◌, refl, ℕ, zero, suc, ◌+◌, ◌-◌, ◌<◌, ℤ, Bool, true, false, ◌&&◌, ◌||◌, ◌==◌, if◌then◌else◌, List, [], ◌∷◌, ◌++◌, length, map, filter, replicate, slice_get, unwrap_or, Option, Some, None}
+use Rattle.std.specs.Prelude.{◌≡◌, refl, ℕ, zero, suc, ◌+◌, ◌-◌, ◌<◌, ℤ, Bool, true, false, ◌&&◌, ◌||◌, ◌==◌, if◌then◌else◌, List, [], ◌∷◌}
+use Rattle.std.specs.Prelude.{◌++◌, length, map, filter, replicate, slice_get, unwrap_or, Option, Some, None}
 use Rattle.std.specs.List.{range_with_len, list_any}
 use Rattle.std.proofs.Common.{ap, sym, ◌∙◌, arith, append_assoc, get_or}
 use Rattle.chaos_dist.specs.Counting.{below}
 use Rattle.fd_program.specs.Past.{decompositions_of, index_arrays_of}
-use Rattle.fd_program.specs.Uses.{is_index}
+use Rattle.fd_words.specs.Roles.{is_index}
 use Rattle.fd_program.specs.declared.checked.Checked.{Checked}
 use Rattle.fd_program.specs.declared.loop_record.LoopRecord.{LoopRecord}
 use Rattle.fd_program.specs.declared.reference.Reference.{Reference}
@@ -21,7 +22,8 @@ picked_next p f out n d less =
     ∙ ap (λ l. out ++ l) (by (p d))
     ∙ sym (append_assoc out (given_if (p d) (f d)) (map f (filter p (range_with_len (d + 1) (n - (d + 1))))))
   where
-    by : (b : Bool) → map f (if b then d ∷ filter p (range_with_len (d + 1) (n - (d + 1))) else filter p (range_with_len (d + 1) (n - (d + 1))))
+    by : (b : Bool) → map f (if b then d ∷ filter p (range_with_len (d + 1) (n - (d + 1)))
+        else filter p (range_with_len (d + 1) (n - (d + 1))))
         ≡ given_if b (f d) ++ map f (filter p (range_with_len (d + 1) (n - (d + 1))))
     by true = refl
     by false = refl
@@ -55,7 +57,8 @@ marks_named name n (r ∷ rs) f = by (name r) (marks_named name n rs)
         let g : ℕ → Bool = λ d. if k == d then true else f d in
         ap (λ marks. marked name marks rs) (set_below f true n k)
         ∙ rest g
-        ∙ same_map (λ d. g d || list_any (λ r. is_named (name r) d) rs) (λ d. f d || ((k == d) || list_any (λ r. is_named (name r) d) rs)) 0 n
+        ∙ same_map (λ d. g d || list_any (λ r. is_named (name r) d) rs) (λ d. f d || ((k == d) || list_any (λ r. is_named (name r) d) rs))
+        0 n
         (λ d low high. or_given (k == d) (f d) (list_any (λ r. is_named (name r) d) rs))
 
 marked_map : (q : ℕ → Bool) (n : ℕ) → marked_below (map q (below n)) n ≡ filter q (below n)
@@ -70,7 +73,8 @@ marked_names name n references =
     ∙ marked_map (λ d. list_any (λ r. is_named (name r) d) references) n
 
 pub marked_decompositions : (c : Checked) (site : Site)
-    → marked_below (marked (named_decomposition c.arrays) (replicate (length c.layouts) false) site.references) (length c.layouts) ≡ decompositions_of c site
+    → marked_below (marked (named_decomposition c.arrays) (replicate (length c.layouts) false) site.references) (length c.layouts)
+    ≡ decompositions_of c site
 marked_decompositions c site = marked_names (named_decomposition c.arrays) (length c.layouts) site.references
 
 named_indexes : (d : ℕ) (references : List Reference)

@@ -1,5 +1,6 @@
 -- The numbers that are kept for records, and what they are after the steps of a run. `past` has the steps, the latest first.
-use Rattle.std.specs.Prelude.{◌≡◌, ℕ, ◌+◌, ℤ, pos, ◌+ℤ◌, Bool, true, false, not, ◌&&◌, ◌==◌, if◌then◌else◌, List, [], ◌∷◌, length, map, filter, fold, replicate, slice_get, slice_set, unwrap_or, Option, Some, None}
+use Rattle.std.specs.Prelude.{◌≡◌, ℕ, ◌+◌, ℤ, pos, ◌+ℤ◌, Bool, true, false, not, ◌&&◌, ◌==◌, if◌then◌else◌, List, [], ◌∷◌, length, map}
+use Rattle.std.specs.Prelude.{filter, fold, replicate, slice_get, slice_set, unwrap_or, Option, Some, None}
 use Rattle.std.specs.Option.{option_map_or}
 use Rattle.std.specs.Ordering.{int_eq}
 use Rattle.chaos_dist.specs.Counting.{below}
@@ -10,7 +11,7 @@ use Rattle.fd_program.specs.Past.{form_set, is_same_shape, is_same_record, chang
 use Rattle.fd_program.specs.Places.{decomposition_of}
 use Rattle.fd_program.specs.Stores.{number_at}
 use Rattle.fd_program.specs.Trace.{site_at}
-use Rattle.fd_program.specs.Uses.{is_index}
+use Rattle.fd_words.specs.Roles.{is_index}
 use Rattle.fd_program.specs.declared.array.ArrayFacts.{ArrayFacts}
 use Rattle.fd_program.specs.declared.checked.Checked.{Checked}
 use Rattle.fd_program.specs.declared.loop_record.LoopRecord.{LoopRecord}

@@ -46,7 +46,8 @@ abbrev pub InspectionsAreKnown : Type 0
 InspectionsAreKnown =
     (c : Checked) (past : List Step) (site : ℕ) (turn : LoopTurn)
     → inspects_at c past site turn
-    ≡ (not (is_empty_turn turn) && differs (record_at c past site turn) (option_map (λ (latest, before). record_at c before site latest) (latest_of past site)))
+    ≡ (not (is_empty_turn turn) && differs (record_at c past site turn) (option_map (λ (latest, before). record_at c before site latest)
+    (latest_of past site)))
 
 -- a version is at most the number of steps
 abbrev pub VersionsAreFew : Type 0

@@ -1,5 +1,6 @@
 -- Lists that have a value for each number from a to a + n.
-use Rattle.std.specs.Prelude.{◌≡◌, refl, ℕ, zero, suc, ◌+◌, ◌<◌, ◌≤◌, Bool, true, false, ◌==◌, if◌then◌else◌, ◌∷◌, map, filter, replicate, slice_get, slice_set, Some}
+use Rattle.std.specs.Prelude.{◌≡◌, refl, ℕ, zero, suc, ◌+◌, ◌<◌, ◌≤◌, Bool, true, false, ◌==◌, if◌then◌else◌, ◌∷◌, map, filter, replicate}
+use Rattle.std.specs.Prelude.{slice_get, slice_set, Some}
 use Rattle.std.specs.List.{range_with_len}
 use Rattle.std.proofs.Common.{ap, sym, ◌∙◌, arith}
 use Rattle.std.proofs.lemmas.Bool.Decides.{nat_tests}
@@ -17,7 +18,8 @@ pub same_map_filter : {B : Type 0} (p : ℕ → Bool) (f g : ℕ → B) (a n : �
     → map f (filter p (range_with_len a n)) ≡ map g (filter p (range_with_len a n))
 same_map_filter p f g a zero same = refl
 same_map_filter p f g a (suc n) same =
-    by (p a) (same a (omega arith) (omega arith)) (same_map_filter p f g (a + 1) n (λ d low high. same d (omega (arith, low)) (omega (arith, high))))
+    by (p a) (same a (omega arith) (omega arith))
+    (same_map_filter p f g (a + 1) n (λ d low high. same d (omega (arith, low)) (omega (arith, high))))
   where
     by : (b : Bool) → f a ≡ g a → map f (filter p (range_with_len (a + 1) n)) ≡ map g (filter p (range_with_len (a + 1) n))
         → map f (if b then a ∷ filter p (range_with_len (a + 1) n) else filter p (range_with_len (a + 1) n))
@@ -66,7 +68,8 @@ set_map f v a (suc n) (suc k) =
     ap (λ b. (if b then v else f a) ∷ slice_set (map f (range_with_len (a + 1) n)) k v) (sym first)
     ∙ ap (λ l. (if a + suc k == a then v else f a) ∷ l) rest
 
-pub set_below : {B : Type 0} (f : ℕ → B) (v : B) (n k : ℕ) → slice_set (map f (below n)) k v ≡ map (λ d. if k == d then v else f d) (below n)
+pub set_below : {B : Type 0} (f : ℕ → B) (v : B) (n k : ℕ) → slice_set (map f (below n)) k v ≡ map (λ d. if k == d then v else f d)
+    (below n)
 set_below f v n k =
     let at : 0 + k ≡ k = omega arith in
     set_map f v 0 n k ∙ ap (λ m. map (λ d. if m == d then v else f d) (below n)) at

@@ -1,5 +1,6 @@
 //! Laws of the definitions. Each function does nothing; its contract is the law.
-ghost use Rattle.chaos_records.specs.KeepingLaws.{InspectionsAreKnown, MoveKeeps, NewKeeps, PrintKeeps, RecordsAreExact, VersionsAreFew, WritesKeep};
+ghost use Rattle.chaos_records.specs.KeepingLaws.{InspectionsAreKnown, MoveKeeps, NewKeeps, PrintKeeps, RecordsAreExact, VersionsAreFew};
+ghost use Rattle.chaos_records.specs.KeepingLaws.{WritesKeep};
 
 /// What is kept are the changes, forms and versions that the steps before tell: for new records before
 /// the first step, and through each step as it is noted. A repeat is found exactly where there is one,

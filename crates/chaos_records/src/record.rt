@@ -1,12 +1,12 @@
 ghost use Rattle.std.specs.Prelude.{◌≡◌, ◌<◌, ◌^◌, true, false, if◌then◌else◌, length, map, replicate, slice_set, ◌++◌, IfOk, OnOk};
 ghost use Rattle.fd_program.specs.Past.{decompositions_of, index_arrays_of};
-ghost use Rattle.fd_program.specs.Places.{decomposition_of};
 ghost use Rattle.fd_program.specs.Stores.{number_at};
-ghost use Rattle.fd_program.specs.Uses.{is_index};
-ghost use Rattle.chaos_records.specs.Keeping.{given_if, is_marked, mark, marked, marked_below, named_decomposition, named_index, record_in, setting_in};
+ghost use Rattle.fd_words.specs.Roles.{is_index};
+ghost use Rattle.chaos_records.specs.Keeping.{given_if, is_marked, mark, marked, marked_below, named_decomposition, named_index, record_in};
+ghost use Rattle.chaos_records.specs.Keeping.{setting_in};
 
 use crate::Records;
-use fd_program::{ArrayFacts, Checked, LoopRecord, LoopTurn, Reference, Site};
+use fd_program::{ArrayFacts, Checked, LoopRecord, LoopTurn, Reference, Site, decomposition};
 use fd_words::{Memory, Numbers, Role};
 use std::alloc::Global;
 
@@ -127,16 +127,6 @@ fn index_of(role: Role, array: u32) -> Option<u32>
         Role::Index => Some(array),
         Role::Read => None,
         Role::Target => None,
-    }
-}
-
-/// The decomposition of an array.
-fn decomposition(arrays: &[ArrayFacts], array: u32) -> u32
-    ensures { result ≡ decomposition_of arrays.now array }
-{
-    match arrays.get(array as usize) {
-        Some(facts) => facts.decomposition,
-        None => 0,
     }
 }
 

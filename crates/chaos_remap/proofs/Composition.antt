@@ -1,5 +1,6 @@
 -- Remapping over all nodes.
-use Rattle.std.proofs.Common.{◌≡◌, ℕ, zero, suc, ◌+◌, ◌-◌, ◌*◌, ◌/◌, ◌<◌, ◌≤◌, ℤ, pos, Bool, true, false, cond, ◌&&◌, ◌==◌, List, [], ◌∷◌, length, map, filter, Some, unwrap_or, refl, ap, sym, subst, ◌∙◌, Less, arith, rules, add-zero, zero-add}
+use Rattle.std.proofs.Common.{◌≡◌, ℕ, zero, suc, ◌+◌, ◌-◌, ◌*◌, ◌/◌, ◌<◌, ◌≤◌, ℤ, pos, Bool, true, false, cond, ◌&&◌, ◌==◌, List, [], ◌∷◌}
+use Rattle.std.proofs.Common.{length, map, filter, Some, unwrap_or, refl, ap, sym, subst, ◌∙◌, Less, arith, rules, add-zero, zero-add}
 use Rattle.std.specs.Prelude.{slice_get, ◌<ℤ◌}
 use Rattle.std.specs.Option.{option_map}
 use Rattle.std.specs.List.{AllByRecursion, flat_map, list_any, range_with_len}
@@ -18,15 +19,17 @@ use Rattle.fd_words.specs.Lists.{list_at}
 use Rattle.fd_words.specs.declared.place.Place.{Place}
 use Rattle.chaos_dist.specs.Counting.{count_up_to, up_to, below, IsKth, kth_up_to, length-filter-up_to, slice_get-filter-up_to}
 use Rattle.chaos_dist.specs.Owners.{owner_in, local_in, elements_on}
-use Rattle.chaos_order.specs.Order.{ascending}
-use Rattle.chaos_order.specs.Dealt.{map-range-same}
-use Rattle.chaos_order.proofs.Once.{ascending-unique}
+use Rattle.list_laws.specs.Tests.{left_true, same_number, same_when}
+use Rattle.list_laws.specs.Order.{ascending}
+use Rattle.list_laws.specs.Rows.{map-range-same}
+use Rattle.list_laws.proofs.Once.{ascending-unique}
 use Rattle.chaos_remap.specs.declared.rows.Row.{Row}
 use Rattle.chaos_remap.specs.Remapping.{number_at, owner_or_first, new_owner, packed_row}
 use Rattle.chaos_remap.specs.Rows.{row_cmp, row_of, rows_of, rows_in, value_in, column_of}
 use Rattle.chaos_remap.specs.Remapped.{sorted_rows, remapped}
 use Rattle.chaos_remap.specs.Composition.{numbers_on, parts_on, letter_to, taken_by, ArraysStay}
-use Rattle.chaos_remap.proofs.Families.{any-key, any-swap, any-same, any-filter, any-flat_map, any-map, filter-both, flat_map-same, by_node, get-pieces, length-pieces, flat_map-places, map-same, map-places}
+use Rattle.chaos_remap.proofs.Families.{any-key, any-swap, any-same, any-filter, any-flat_map, any-map, filter-both, flat_map-same, by_node}
+use Rattle.chaos_remap.proofs.Families.{get-pieces, length-pieces, flat_map-places, map-same, map-places}
 
 inside : {A : Type 0} (x y : A) → Some x ≡ Some y → x ≡ y
 inside x y e = cc
@@ -37,7 +40,8 @@ is_kth p n k g e =
     let short : k < count_up_to p n = subst (λ m. k < m) (length-filter-up_to p n) (slice_get_within (filter p (up_to n)) k g e) in
     let found = kth_up_to p n k short in
     let there : slice_get (filter p (up_to n)) k ≡ Some found.0 =
-    ap (slice_get (filter p (up_to n))) (sym found.1.before) ∙ slice_get-filter-up_to p n found.0 found.1.from_one found.1.within found.1.passes in
+    ap (slice_get (filter p (up_to n))) (sym found.1.before) ∙ slice_get-filter-up_to p n found.0 found.1.from_one found.1.within
+    found.1.passes in
     subst (λ h. IsKth p n k h) (inside found.0 g (sym there ∙ e)) found.1
 
 -- ---- the letters
@@ -60,37 +64,29 @@ map_twice g f (x ∷ xs) = ap (λ l. g (f x) ∷ l) (map_twice g f xs)
 number_of_map : (f : ℕ → ℤ) (es : List ℕ) (k g : ℕ) → slice_get es k ≡ Some g → number_at (map f es) k ≡ f g
 number_of_map f es k g e = ap (λ o. unwrap_or o (pos 0)) (slice_get-map f es k ∙ ap (option_map f) e)
 
-row_at : (arrays : List (ℕ → ℤ)) (es : List ℕ) (k g : ℕ) → slice_get es k ≡ Some g
+pub row_at : (arrays : List (ℕ → ℤ)) (es : List ℕ) (k g : ℕ) → slice_get es k ≡ Some g
     → packed_row (map pos es) (map (λ value. map value es) arrays) (pos k) ≡ whole_row arrays g
 row_at arrays es k g e =
     ap (λ n. n ∷ map (λ piece. number_at piece k) (map (λ value. map value es) arrays)) (number_of_map pos es k g e)
     ∙ ap (λ l. pos g ∷ l) (map_twice (λ (piece : List ℤ). number_at piece k) (λ (value : ℕ → ℤ). map value es) arrays
     ∙ map-same (λ (value : ℕ → ℤ). number_at (map value es) k) (λ value. value g) arrays (λ _ value _. number_of_map value es k g e))
 
-goes_to : (place : ℕ → Place) (es : List ℕ) (k g : ℕ) → slice_get es k ≡ Some g → new_owner (map place es) k ≡ (place g).owner
+pub goes_to : (place : ℕ → Place) (es : List ℕ) (k g : ℕ) → slice_get es k ≡ Some g → new_owner (map place es) k ≡ (place g).owner
 goes_to place es k g e = ap owner_or_first (slice_get-map place es k ∙ ap (option_map place) e)
-
-left_true : (a b : Bool) → (a && b) ≡ true → a ≡ true
-left_true true b e = refl
-left_true false b e = e
 
 and_assoc : (a b c : Bool) → ((a && b) && c) ≡ (a && (b && c))
 and_assoc true b c = refl
 and_assoc false b c = refl
 
-same_when : (k p : ℕ) → (k == p) ≡ true → k ≡ p
-same_when k p e = grind (arith, nat_tests)
-
-same_number : (k : ℕ) → (k == k) ≡ true
-same_number k = grind (arith, nat_tests)
-
 row_cmp_total : IsTotalOrder row_cmp
-row_cmp_total = then_total (on_total (λ (r : Row). r.element) int_cmp_total) (then_total (on_total (λ (r : Row). r.sender) nat_cmp_total) (on_total (λ (r : Row). r.start) nat_cmp_total))
+row_cmp_total = then_total (on_total (λ (r : Row). r.element) int_cmp_total) (then_total (on_total (λ (r : Row). r.sender) nat_cmp_total)
+    (on_total (λ (r : Row). r.start) nat_cmp_total))
 
 row_cmp-IsAntisymmetric : fin.IsAntisymmetric row_cmp
 row_cmp-IsAntisymmetric = search rules
 
-module _ (nodes : ℕ) (arrays : List (ℕ → ℤ)) (old new : List ℕ) (node : ℕ) (there : node < nodes) (as_long : length old ≡ length new) (owned : (g : ℕ) → owner_in old g < nodes) where
+module _ (nodes : ℕ) (arrays : List (ℕ → ℤ)) (old new : List ℕ) (node : ℕ) (there : node < nodes) (as_long : length old ≡ length new)
+    (owned : (g : ℕ) → owner_in old g < nodes) where
   abbrev width : ℕ
   width = suc (length arrays)
 
@@ -133,7 +129,8 @@ module _ (nodes : ℕ) (arrays : List (ℕ → ℤ)) (old new : List ℕ) (node 
   abbrev row_for : ℕ → Row
   row_for g = record { element = pos g; sender = owner_in old g; start = count_up_to (comes (owner_in old g)) (g - 1) * width }
 
-  row_is : (sender k g : ℕ) → slice_get (sent sender) k ≡ Some g → row_of width sender (flat_map (whole_row arrays) (sent sender)) k ≡ row_for g
+  row_is : (sender k g : ℕ) → slice_get (sent sender) k ≡ Some g → row_of width sender (flat_map (whole_row arrays) (sent sender)) k
+      ≡ row_for g
   row_is sender k g e =
       let h = is_kth (comes sender) (length old) k g e in
       let own : owner_in old g ≡ sender = same_when (owner_in old g) sender (left_true (owner_in old g == sender) (arrives g) h.passes) in
@@ -149,27 +146,34 @@ module _ (nodes : ℕ) (arrays : List (ℕ → ℤ)) (old new : List ℕ) (node 
       let numbers = flat_map (whole_row arrays) (sent sender) in
       let n = length (sent sender) in
       let count : length numbers / width ≡ n =
-      ap (λ m. m / width) (length-pieces (whole_row arrays) width (wide arrays) (sent sender) ∙ sym (add-zero (n * width))) ∙ div-mul-add n width 0 (omega arith) in
+      ap (λ m. m / width) (length-pieces (whole_row arrays) width (wide arrays) (sent sender) ∙ sym (add-zero (n * width)))
+      ∙ div-mul-add n width 0 (omega arith) in
       ap (λ m. map (row_of width sender numbers) (range_with_len 0 m)) count
-      ∙ map-places (row_of width sender numbers) row_for 0 (sent sender) (λ k g e. ap (row_of width sender numbers) (zero-add k) ∙ row_is sender k g e)
+      ∙ map-places (row_of width sender numbers) row_for 0 (sent sender) (λ k g e. ap (row_of width sender numbers) (zero-add k)
+      ∙ row_is sender k g e)
 
   rows_are : rows_in width letters ≡ flat_map (λ sender. map row_for (sent sender)) (below nodes)
   rows_are =
-      ap (λ n. flat_map (λ sender. rows_of width sender (list_at letters sender)) (range_with_len 0 n)) (length-map-range_with_len (λ sender. flat_map (whole_row arrays) (sent sender)) 0 nodes)
-      ∙ flat_map-same (λ sender. rows_of width sender (list_at letters sender)) (λ sender. map row_for (sent sender)) nodes (λ sender h. ap (rows_of width sender) (letter_at sender h) ∙ rows_from sender)
+      ap (λ n. flat_map (λ sender. rows_of width sender (list_at letters sender)) (range_with_len 0 n))
+      (length-map-range_with_len (λ sender. flat_map (whole_row arrays) (sent sender)) 0 nodes)
+      ∙ flat_map-same (λ sender. rows_of width sender (list_at letters sender)) (λ sender. map row_for (sent sender)) nodes
+      (λ sender h. ap (rows_of width sender) (letter_at sender h) ∙ rows_from sender)
 
   -- ---- the rows in order are those of the elements in order
 
-  members : (r : Row) → list_any (eq_by_cmp row_cmp r) (map row_for (filter arrives (up_to (length old)))) ≡ list_any (eq_by_cmp row_cmp r) (flat_map (λ sender. map row_for (sent sender)) (below nodes))
+  members : (r : Row) → list_any (eq_by_cmp row_cmp r) (map row_for (filter arrives (up_to (length old))))
+      ≡ list_any (eq_by_cmp row_cmp r) (flat_map (λ sender. map row_for (sent sender)) (below nodes))
   members r =
       let f = eq_by_cmp row_cmp r in
       let at = λ (g : ℕ). f (row_for g) in
       let all = up_to (length old) in
       any-map f row_for (filter arrives all) ∙ any-filter at arrives all
       ∙ sym (any-flat_map f (λ sender. map row_for (sent sender)) (below nodes)
-      ∙ any-same (λ sender. list_any f (map row_for (sent sender))) (λ sender. list_any (λ g. (owner_in old g == sender) && (arrives g && at g)) all) (below nodes)
+      ∙ any-same (λ sender. list_any f (map row_for (sent sender)))
+      (λ sender. list_any (λ g. (owner_in old g == sender) && (arrives g && at g)) all) (below nodes)
       (λ sender. any-map f row_for (sent sender) ∙ any-filter at (comes sender) all
-      ∙ any-same (λ g. comes sender g && at g) (λ g. (owner_in old g == sender) && (arrives g && at g)) all (λ g. and_assoc (owner_in old g == sender) (arrives g) (at g)))
+      ∙ any-same (λ g. comes sender g && at g) (λ g. (owner_in old g == sender) && (arrives g && at g)) all
+      (λ g. and_assoc (owner_in old g == sender) (arrives g) (at g)))
       ∙ any-swap (λ g sender. (owner_in old g == sender) && (arrives g && at g)) all (below nodes)
       ∙ any-same (λ g. list_any (λ sender. (owner_in old g == sender) && (arrives g && at g)) (below nodes)) (λ g. arrives g && at g) all
       (λ g. any-key (owner_in old g) nodes (arrives g && at g) (owned g)))
@@ -177,14 +181,16 @@ module _ (nodes : ℕ) (arrays : List (ℕ → ℤ)) (old new : List ℕ) (node 
   first_less : (g h : ℕ) → g < h → row_cmp (row_for g) (row_for h) ≡ Less
   first_less g h less =
       let below_it : pos g <ℤ pos h = omega (arith, ints) in
-      ap (λ o. ordering_then o (ordering_then (nat_cmp (row_for g).sender (row_for h).sender) (nat_cmp (row_for g).start (row_for h).start))) (sym (int_cmp_is (pos g) (pos h) Less below_it))
+      ap (λ o. ordering_then o (ordering_then (nat_cmp (row_for g).sender (row_for h).sender)
+      (nat_cmp (row_for g).start (row_for h).start))) (sym (int_cmp_is (pos g) (pos h) Less below_it))
 
   all_above : (g a n : ℕ) → g < a → AllByRecursion (λ r. row_cmp (row_for g) r ≡ Less) (map row_for (filter arrives (range_with_len a n)))
   all_above g a zero h = tt
   all_above g a (suc n) h =
       let rest = filter arrives (range_with_len (a + 1) n) in
       let later : AllByRecursion (λ r. row_cmp (row_for g) r ≡ Less) (map row_for rest) = all_above g (a + 1) n (omega arith) in
-      elim (arrives a) as (λ b. AllByRecursion (λ r. row_cmp (row_for g) r ≡ Less) (map row_for (cond b (a ∷ rest) rest))) [ true ↦ (first_less g a h, later) | false ↦ later ]
+      elim (arrives a) as (λ b. AllByRecursion (λ r. row_cmp (row_for g) r ≡ Less) (map row_for (cond b (a ∷ rest) rest)))
+      [ true ↦ (first_less g a h, later) | false ↦ later ]
 
   sorted_from : (a n : ℕ) → IsStrictlySortedBy row_cmp (map row_for (filter arrives (range_with_len a n)))
   unfolding IsStrictlySortedBy
@@ -200,13 +206,15 @@ module _ (nodes : ℕ) (arrays : List (ℕ → ℤ)) (old new : List ℕ) (node 
   unfolding sorted_rows
   sorted_are =
       ap (ascending row_cmp) rows_are
-      ∙ sym (ascending-unique row_cmp row_cmp_total row_cmp-IsAntisymmetric (flat_map (λ sender. map row_for (sent sender)) (below nodes)) (map row_for (filter arrives (up_to (length old))))
+      ∙ sym (ascending-unique row_cmp row_cmp_total row_cmp-IsAntisymmetric (flat_map (λ sender. map row_for (sent sender)) (below nodes))
+      (map row_for (filter arrives (up_to (length old))))
       (sorted_from 1 (length old)) members)
       ∙ ap (λ n. map row_for (filter arrives (up_to n))) as_long
 
   -- ---- their numbers
 
-  value_is : (j k g : ℕ) → j < width → slice_get (elements_on new node) k ≡ Some g → value_in letters j (row_for g) ≡ number_at (whole_row arrays g) j
+  value_is : (j k g : ℕ) → j < width → slice_get (elements_on new node) k ≡ Some g → value_in letters j (row_for g)
+      ≡ number_at (whole_row arrays g) j
   value_is j k g less e =
       let h = is_kth arrives (length new) k g e in
       let sender = owner_in old g in
@@ -217,10 +225,12 @@ module _ (nodes : ℕ) (arrays : List (ℕ → ℤ)) (old new : List ℕ) (node 
       ap (λ l. number_at l (count * width + j)) (letter_at sender (owned g))
       ∙ ap (λ o. unwrap_or o (pos 0)) (get-pieces (whole_row arrays) width (wide arrays) (sent sender) count j g at less)
 
-  column_is : (j : ℕ) → j < width → column_of letters (map row_for (elements_on new node)) j ≡ map (λ g. number_at (whole_row arrays g) j) (elements_on new node)
+  column_is : (j : ℕ) → j < width → column_of letters (map row_for (elements_on new node)) j ≡ map (λ g. number_at (whole_row arrays g) j)
+      (elements_on new node)
   column_is j less =
       map_twice (value_in letters j) row_for (elements_on new node)
-      ∙ map-same (λ g. value_in letters j (row_for g)) (λ g. number_at (whole_row arrays g) j) (elements_on new node) (λ k g e. value_is j k g less e)
+      ∙ map-same (λ g. value_in letters j (row_for g)) (λ g. number_at (whole_row arrays g) j) (elements_on new node)
+      (λ k g e. value_is j k g less e)
 
   array_value : (g k : ℕ) (value : ℕ → ℤ) → slice_get arrays k ≡ Some value → number_at (whole_row arrays g) (suc k) ≡ value g
   array_value g k value e =
@@ -246,7 +256,10 @@ module _ (nodes : ℕ) (arrays : List (ℕ → ℤ)) (old new : List ℕ) (node 
       ap (λ rows. map (column_of letters rows) (range_with_len 1 (width - 1))) sorted_are ∙ pieces_are in
       λ i. record { elements = elements i; pieces = pieces i }
 
-  pub composed : remapped width (taken_by nodes arrays old new node) ≡ record { elements = numbers_on new node; pieces = parts_on arrays new node }
+  pub composed : remapped width (taken_by nodes arrays old new node) ≡ record {
+    elements = numbers_on new node;
+    pieces = parts_on arrays new node;
+  }
   composed = ap (remapped width) taken_is ∙ all_placed
 
 owner_below : (n : ℕ) (owners : List ℕ) (k : ℕ) → 0 < n → AllByRecursion (λ owner. owner < n) owners → unwrap_or (slice_get owners k) 0 < n
@@ -256,4 +269,5 @@ owner_below n (o ∷ owners) (suc k) some h = owner_below n owners k some h.1
 
 pub arrays_stay : ArraysStay
 arrays_stay nodes arrays old new node there as_long all =
-    composed nodes arrays old new node there as_long (λ g. owner_below nodes old (g - 1) (omega arith) (recursion_from_All (λ owner. owner < nodes) old all))
+    composed nodes arrays old new node there as_long (λ g. owner_below nodes old (g - 1) (omega arith)
+    (recursion_from_All (λ owner. owner < nodes) old all))

@@ -1,5 +1,6 @@
 -- Lists by places and by keys.
-use Rattle.std.proofs.Common.{◌≡◌, ℕ, zero, suc, ◌+◌, ◌*◌, ◌<◌, ◌≤◌, Bool, true, false, cond, ◌&&◌, ◌||◌, ◌==◌, List, [], ◌∷◌, ◌++◌, length, map, filter, Some, refl, ap, sym, subst, ◌∙◌, arith, add-zero, length-append}
+use Rattle.std.proofs.Common.{◌≡◌, ℕ, zero, suc, ◌+◌, ◌*◌, ◌<◌, ◌≤◌, Bool, true, false, cond, ◌&&◌, ◌||◌, ◌==◌, List, [], ◌∷◌, ◌++◌, length}
+use Rattle.std.proofs.Common.{map, filter, Some, refl, ap, sym, subst, ◌∙◌, arith, add-zero, length-append}
 use Rattle.std.specs.Prelude.{slice_get}
 use Rattle.std.specs.List.{flat_map, list_any, range_with_len}
 use Rattle.std.proofs.lemmas.Bool.Decides.{nat_tests}
@@ -9,11 +10,13 @@ use Rattle.fd_words.specs.Lists.{list_at}
 
 module _ {A B : Type 0} where
   -- two maps that agree at each place
-  pub map-places : (f : ℕ → B) (g : A → B) (a : ℕ) (xs : List A) → ((k : ℕ) (x : A) → slice_get xs k ≡ Some x → f (a + k) ≡ g x) → map f (range_with_len a (length xs)) ≡ map g xs
+  pub map-places : (f : ℕ → B) (g : A → B) (a : ℕ) (xs : List A) → ((k : ℕ) (x : A) → slice_get xs k ≡ Some x → f (a + k) ≡ g x)
+      → map f (range_with_len a (length xs)) ≡ map g xs
   map-places f g a [] same = refl
   map-places f g a (x ∷ xs) same =
       ap (λ y. y ∷ map f (range_with_len (a + 1) (length xs))) (ap f (sym (add-zero a)) ∙ same zero x refl)
-      ∙ ap (λ l. g x ∷ l) (map-places f g (a + 1) xs (λ k y e. let next : a + 1 + k ≡ a + suc k = omega arith in ap f next ∙ same (suc k) y e))
+      ∙ ap (λ l. g x ∷ l) (map-places f g (a + 1) xs (λ k y e. let next : a + 1 + k ≡ a + suc k = omega arith in ap f next
+      ∙ same (suc k) y e))
 
   pub map-same : (f g : A → B) (xs : List A) → ((k : ℕ) (x : A) → slice_get xs k ≡ Some x → f x ≡ g x) → map f xs ≡ map g xs
   map-same f g [] same = refl
@@ -32,7 +35,8 @@ module _ {A B : Type 0} where
       ap (λ b. flat_map f (cond b (a ∷ rest) rest)) (ap t (sym (add-zero a)) ∙ test zero x refl)
       ∙ both (u x) a rest x (filter u xs) (ap f (sym (add-zero a)) ∙ same zero x refl) later
     where
-      both : (b : Bool) (h : ℕ) (hs : List ℕ) (y : A) (ys : List A) → f h ≡ g y → flat_map f hs ≡ flat_map g ys → flat_map f (cond b (h ∷ hs) hs) ≡ flat_map g (cond b (y ∷ ys) ys)
+      both : (b : Bool) (h : ℕ) (hs : List ℕ) (y : A) (ys : List A) → f h ≡ g y → flat_map f hs ≡ flat_map g ys
+          → flat_map f (cond b (h ∷ hs) hs) ≡ flat_map g (cond b (y ∷ ys) ys)
       both true h hs y ys e l = ap (λ z. z ++ flat_map f hs) e ∙ ap (λ z. g y ++ z) l
       both false h hs y ys e l = l
 
@@ -43,7 +47,8 @@ get_front (x ∷ xs) ys (suc k) h = get_front xs ys k (omega arith)
 
 get_behind : {A : Type 0} (xs ys : List A) (k : ℕ) → slice_get (xs ++ ys) (length xs + k) ≡ slice_get ys k
 get_behind [] ys k = let e : 0 + k ≡ k = omega arith in ap (slice_get ys) e
-get_behind (x ∷ xs) ys k = let e : suc (length xs) + k ≡ suc (length xs + k) = omega arith in ap (slice_get (x ∷ (xs ++ ys))) e ∙ get_behind xs ys k
+get_behind (x ∷ xs) ys k = let e : suc (length xs) + k ≡ suc (length xs + k) = omega arith in ap (slice_get (x ∷ (xs ++ ys))) e
+    ∙ get_behind xs ys k
 
 -- pieces of one width, one after another
 module _ {A B : Type 0} (f : A → List B) (width : ℕ) (wide : (x : A) → length (f x) ≡ width) where
@@ -51,7 +56,8 @@ module _ {A B : Type 0} (f : A → List B) (width : ℕ) (wide : (x : A) → len
   length-pieces [] = let e : 0 ≡ 0 * width = omega arith in e
   length-pieces (x ∷ xs) = length-append (f x) (flat_map f xs) ∙ omega (arith, wide x, length-pieces xs)
 
-  pub get-pieces : (xs : List A) (k j : ℕ) (x : A) → slice_get xs k ≡ Some x → j < width → slice_get (flat_map f xs) (k * width + j) ≡ slice_get (f x) j
+  pub get-pieces : (xs : List A) (k j : ℕ) (x : A) → slice_get xs k ≡ Some x → j < width → slice_get (flat_map f xs) (k * width + j)
+      ≡ slice_get (f x) j
   get-pieces [] k j x e h = absurd (no_item e)
     where
       no_item : slice_get [] k ≡ Some x → ⊥
@@ -80,12 +86,15 @@ at_range f a (suc k) (suc n) h =
 pub by_node : {B : Type 0} (f : ℕ → List B) (q n : ℕ) → q < n → list_at (map f (range_with_len 0 n)) q ≡ f q
 by_node f q n h = let e : 0 + q ≡ q = omega arith in at_range f 0 q n h ∙ ap f e
 
-flat_map-same-from : {B : Type 0} (f g : ℕ → List B) (a n : ℕ) → ((k : ℕ) → k < a + n → f k ≡ g k) → flat_map f (range_with_len a n) ≡ flat_map g (range_with_len a n)
+flat_map-same-from : {B : Type 0} (f g : ℕ → List B) (a n : ℕ) → ((k : ℕ) → k < a + n → f k ≡ g k) → flat_map f (range_with_len a n)
+    ≡ flat_map g (range_with_len a n)
 flat_map-same-from f g a zero same = refl
 flat_map-same-from f g a (suc n) same =
-    ap (λ l. l ++ flat_map f (range_with_len (a + 1) n)) (same a (omega arith)) ∙ ap (λ l. g a ++ l) (flat_map-same-from f g (a + 1) n (λ k h. same k (omega arith)))
+    ap (λ l. l ++ flat_map f (range_with_len (a + 1) n)) (same a (omega arith))
+    ∙ ap (λ l. g a ++ l) (flat_map-same-from f g (a + 1) n (λ k h. same k (omega arith)))
 
-pub flat_map-same : {B : Type 0} (f g : ℕ → List B) (n : ℕ) → ((k : ℕ) → k < n → f k ≡ g k) → flat_map f (range_with_len 0 n) ≡ flat_map g (range_with_len 0 n)
+pub flat_map-same : {B : Type 0} (f g : ℕ → List B) (n : ℕ) → ((k : ℕ) → k < n → f k ≡ g k) → flat_map f (range_with_len 0 n)
+    ≡ flat_map g (range_with_len 0 n)
 flat_map-same f g n same = flat_map-same-from f g 0 n (λ k h. same k (omega arith))
 
 -- ---- what is among the items
@@ -93,7 +102,8 @@ flat_map-same f g n same = flat_map-same-from f g 0 n (λ k h. same k (omega ari
 pub filter-both : {A : Type 0} (p t : A → Bool) (xs : List A) → filter t (filter p xs) ≡ filter (λ x. p x && t x) xs
 filter-both p t [] = refl
 filter-both p t (x ∷ xs) =
-    elim (p x) as (λ b. filter t (cond b (x ∷ filter p xs) (filter p xs)) ≡ cond (b && t x) (x ∷ filter (λ x. p x && t x) xs) (filter (λ x. p x && t x) xs)) [
+    elim (p x) as (λ b. filter t (cond b (x ∷ filter p xs) (filter p xs)) ≡ cond (b && t x) (x ∷ filter (λ x. p x && t x) xs)
+    (filter (λ x. p x && t x) xs)) [
       | true ↦ ap (λ l. cond (t x) (x ∷ l) l) (filter-both p t xs)
       | false ↦ filter-both p t xs
     ]
@@ -123,7 +133,8 @@ module _ {A : Type 0} (f : A → Bool) where
 
   pub any-filter : (p : A → Bool) (xs : List A) → list_any f (filter p xs) ≡ list_any (λ x. p x && f x) xs
   any-filter p [] = refl
-  any-filter p (x ∷ xs) = elim (p x) as (λ b. list_any f (cond b (x ∷ filter p xs) (filter p xs)) ≡ ((b && f x) || list_any (λ x. p x && f x) xs)) [ true ↦ ap (λ b. f x || b) (any-filter p xs) | false ↦ any-filter p xs ]
+  any-filter p (x ∷ xs) = elim (p x) as (λ b. list_any f (cond b (x ∷ filter p xs) (filter p xs))
+      ≡ ((b && f x) || list_any (λ x. p x && f x) xs)) [ true ↦ ap (λ b. f x || b) (any-filter p xs) | false ↦ any-filter p xs ]
 
 pub any-same : {A : Type 0} (f g : A → Bool) (xs : List A) → ((x : A) → f x ≡ g x) → list_any f xs ≡ list_any g xs
 any-same f g [] same = refl
@@ -137,7 +148,8 @@ any-either : {A : Type 0} (f g : A → Bool) (xs : List A) → list_any (λ x. f
 any-either f g [] = refl
 any-either f g (x ∷ xs) = ap (λ b. (f x || g x) || b) (any-either f g xs) ∙ or_swap (f x) (g x) (list_any f xs) (list_any g xs)
 
-pub any-swap : {A B : Type 0} (c : A → B → Bool) (xs : List A) (ys : List B) → list_any (λ y. list_any (λ x. c x y) xs) ys ≡ list_any (λ x. list_any (c x) ys) xs
+pub any-swap : {A B : Type 0} (c : A → B → Bool) (xs : List A) (ys : List B) → list_any (λ y. list_any (λ x. c x y) xs) ys
+    ≡ list_any (λ x. list_any (c x) ys) xs
 any-swap c [] ys = any-none ys
 any-swap c (x ∷ xs) ys = any-either (c x) (λ y. list_any (λ x. c x y) xs) ys ∙ ap (λ b. list_any (c x) ys || b) (any-swap c xs ys)
 
@@ -150,7 +162,8 @@ is_same k p h l = grind (arith, nat_tests)
 
 no_key : (key a n : ℕ) (t : Bool) → key < a → list_any (λ s. (key == s) && t) (range_with_len a n) ≡ false
 no_key key a zero t h = refl
-no_key key a (suc n) t h = ap (λ b. (b && t) || list_any (λ s. (key == s) && t) (range_with_len (a + 1) n)) (not_same key a h) ∙ no_key key (a + 1) n t (omega arith)
+no_key key a (suc n) t h = ap (λ b. (b && t) || list_any (λ s. (key == s) && t) (range_with_len (a + 1) n)) (not_same key a h)
+    ∙ no_key key (a + 1) n t (omega arith)
 
 or_false : (b : Bool) → (b || false) ≡ b
 or_false true = refl

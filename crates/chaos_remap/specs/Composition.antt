@@ -31,5 +31,9 @@ taken_by nodes arrays old new receiver = map (letter_to nodes arrays old new rec
 
 -- Where all nodes plan, pack, send and place, a node has the new layout's elements and the local parts of the same arrays.
 abbrev pub ArraysStay : Type 0
-ArraysStay = (nodes : ℕ) (arrays : List (ℕ → ℤ)) (old new : List ℕ) (node : ℕ) → node < nodes → length old ≡ length new → All (λ owner. owner < nodes) old
-    → remapped (suc (length arrays)) (taken_by nodes arrays old new node) ≡ record { elements = numbers_on new node; pieces = parts_on arrays new node }
+ArraysStay = (nodes : ℕ) (arrays : List (ℕ → ℤ)) (old new : List ℕ) (node : ℕ) → node < nodes → length old ≡ length new
+    → All (λ owner. owner < nodes) old
+    → remapped (suc (length arrays)) (taken_by nodes arrays old new node) ≡ record {
+      elements = numbers_on new node;
+      pieces = parts_on arrays new node;
+    }

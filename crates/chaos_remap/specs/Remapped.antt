@@ -1,7 +1,7 @@
 -- The new local parts of a node.
 use Rattle.std.specs.Prelude.{ℕ, ◌-◌, ℤ, List, map}
 use Rattle.std.specs.List.{range_with_len}
-use Rattle.chaos_order.specs.Order.{ascending}
+use Rattle.list_laws.specs.Order.{ascending}
 use Rattle.chaos_remap.specs.declared.rows.Row.{Row}
 use Rattle.chaos_remap.specs.declared.place.Remapped.{Remapped}
 use Rattle.chaos_remap.specs.Rows.{row_cmp, rows_in, column_of}

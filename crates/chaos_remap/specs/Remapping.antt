@@ -2,7 +2,7 @@
 use Rattle.std.specs.Prelude.{ℕ, ℤ, pos, negsuc, List, ◌∷◌, Option, Some, None, length, map, slice_get, unwrap_or}
 use Rattle.std.specs.List.{flat_map, range_with_len}
 use Rattle.fd_words.specs.declared.place.Place.{Place}
-use Rattle.chaos_order.specs.Dealt.{dealt}
+use Rattle.list_laws.specs.Dealt.{dealt}
 
 -- the number at a place, 0 outside
 abbrev pub number_at : List ℤ → ℕ → ℤ

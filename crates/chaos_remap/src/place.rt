@@ -4,8 +4,8 @@ ghost use Rattle.chaos_remap.specs.Remapped.{remapped};
 
 use crate::numbers::{list_of, number_behind};
 use crate::rows::{Row, read_rows};
-use chaos_order::ascend;
 use fd_words::{Memory, NumberLists, Numbers};
+use list_laws::ascend;
 use std::alloc::Global;
 
 /// A node's part of a decomposition under its new layout: the elements, ascending, and the local part of

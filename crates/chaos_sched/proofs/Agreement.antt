@@ -1,5 +1,7 @@
 -- What the schedules of two nodes say of one another.
-use Rattle.std.proofs.Common.{◌≡◌, ℕ, zero, suc, ◌+◌, ◌<◌, ◌≤◌, ◌^◌, ℤ, pos, true, false, cond, ◌&&◌, ◌==◌, ◌⊎◌, inl, inr, List, [], ◌∷◌, ◌++◌, map, Some, None, refl, ap, sym, subst, ◌∙◌, Ordering, Less, Equal, Greater, arith, true≢false, add-zero, append-nil}
+use Rattle.std.proofs.Common.{◌≡◌, ℕ, zero, suc, ◌+◌, ◌<◌, ◌≤◌, ◌^◌, ℤ, pos, true, false, cond, ◌&&◌, ◌==◌, ◌⊎◌, inl, inr, List, [], ◌∷◌}
+use Rattle.std.proofs.Common.{◌++◌, map, Some, None, refl, ap, sym, subst, ◌∙◌, Ordering, Less, Equal, Greater, arith, true≢false, add-zero}
+use Rattle.std.proofs.Common.{append-nil}
 use Rattle.std.specs.Prelude.{nat_lt, All}
 use lib.Dec.{T}
 use Rattle.std.specs.List.{AllByRecursion, dedup, dedup_from, flat_map, range_with_len}
@@ -14,12 +16,13 @@ use Rattle.std.proofs.lemmas.List.Elements.{recursion_from_All}
 use Rattle.fd_words.specs.Lists.{list_at}
 use Rattle.fd_words.specs.declared.place.Role.{Role}
 use Rattle.fd_words.specs.declared.place.Role.TheVariants.{Read, Target}
-use Rattle.chaos_order.specs.Order.{alone, ascending}
-use Rattle.chaos_order.proofs.Ascending.{first, second}
-use Rattle.chaos_order.proofs.Once.{ascending-unique}
+use Rattle.list_laws.specs.Order.{alone, ascending}
+use Rattle.list_laws.proofs.Ascending.{first, second}
+use Rattle.list_laws.proofs.Once.{ascending-unique}
 use Rattle.chaos_sched.specs.declared.item.Item.{Item}
 use Rattle.chaos_sched.specs.declared.need.Need.{Need}
-use Rattle.chaos_sched.specs.Scheduled.{item_cmp, same_element, in_order, needed_items, needed_from, ask_row, ask_to, asked_item, asked_items, asked_by}
+use Rattle.chaos_sched.specs.Scheduled.{item_cmp, same_element, in_order, needed_items, needed_from, ask_row, ask_to, asked_item}
+use Rattle.chaos_sched.specs.Scheduled.{asked_items, asked_by}
 use Rattle.chaos_sched.specs.Agreement.{element_cmp, on_owner, IsNamed, SidesAgree, ListsAscend}
 use Rattle.chaos_sched.proofs.Small.{all_dedup_from, all_needed, item_cmp_total, item_cmp-IsAntisymmetric}
 
@@ -83,14 +86,21 @@ each P Q f (x ∷ xs) h = (f x h.0, each P Q f xs h.1)
 
 -- ---- lists in order ascend by array and element
 
-above_keys : (x : Item) (es : List (Item × Unit {0})) → T (below_all item_cmp x es) → AllByRecursion (λ y. item_cmp x y ≡ Less) (map (λ e. e.0) es)
+above_keys : (x : Item) (es : List (Item × Unit {0})) → T (below_all item_cmp x es) → AllByRecursion (λ y. item_cmp x y ≡ Less)
+    (map (λ e. e.0) es)
 above_keys x [] h = tt
-above_keys x (e ∷ es) h = (less_when (item_cmp x e.0) (first (is_lt (item_cmp x e.0)) _ h), above_keys x es (second (is_lt (item_cmp x e.0)) _ h))
+above_keys x (e ∷ es) h = (
+  less_when (item_cmp x e.0) (first (is_lt (item_cmp x e.0)) _ h),
+  above_keys x es (second (is_lt (item_cmp x e.0)) _ h),
+)
 
 sorted_keys : (es : List (Item × Unit {0})) → T (is_sorted item_cmp es) → IsStrictlySortedBy item_cmp (map (λ e. e.0) es)
 unfolding IsStrictlySortedBy
 sorted_keys [] h = tt
-sorted_keys (e ∷ es) h = (above_keys e.0 es (first (below_all item_cmp e.0 es) _ h), sorted_keys es (second (below_all item_cmp e.0 es) _ h))
+sorted_keys (e ∷ es) h = (
+  above_keys e.0 es (first (below_all item_cmp e.0 es) _ h),
+  sorted_keys es (second (below_all item_cmp e.0 es) _ h),
+)
 
 ascending-sorted : (items : List Item) → IsStrictlySortedBy item_cmp (ascending item_cmp items)
 ascending-sorted items = let m = fin.from_entries {R = item_cmp} (alone items) in sorted_keys (fin.entries m) (fin.entries_sorted m)
@@ -100,17 +110,21 @@ before_both k x y e f =
     elim (less_or_equal (nat_cmp x.array y.array) (nat_cmp x.element y.element) (rest_cmp x y) f) [
       | inl less ↦ element_cmp_total.trans k x y e less
       | inr same ↦
-          element_cmp_total.antisymm k y ∙ ap ordering_reverse (sym (element_cmp_total.congr x y k same)) ∙ sym (element_cmp_total.antisymm k x) ∙ e
+          element_cmp_total.antisymm k y ∙ ap ordering_reverse (sym (element_cmp_total.congr x y k same))
+          ∙ sym (element_cmp_total.antisymm k x) ∙ e
     ]
 
-once_from : (k : Item) (xs : List Item) → AllByRecursion (λ y. item_cmp k y ≡ Less) xs → IsStrictlySortedBy item_cmp xs → IsStrictlySortedBy element_cmp (dedup_from same_element k xs)
+once_from : (k : Item) (xs : List Item) → AllByRecursion (λ y. item_cmp k y ≡ Less) xs → IsStrictlySortedBy item_cmp xs
+    → IsStrictlySortedBy element_cmp (dedup_from same_element k xs)
 unfolding IsStrictlySortedBy
 once_from k [] above up = (tt, tt)
 once_from k (x ∷ xs) above up =
-    elim (same_element x k) as (λ b. same_element x k ≡ b → IsStrictlySortedBy element_cmp (cond b (dedup_from same_element k xs) (k ∷ dedup_from same_element x xs))) [
+    elim (same_element x k) as (λ b. same_element x k ≡ b
+    → IsStrictlySortedBy element_cmp (cond b (dedup_from same_element k xs) (k ∷ dedup_from same_element x xs))) [
       | true ↦ λ _. once_from k xs above.1 up.1
       | false ↦ λ other.
-          let less : element_cmp k x ≡ Less = less_unless (nat_cmp k.array x.array) (nat_cmp k.element x.element) (rest_cmp k x) above.0 (sym (turned x k) ∙ other) in (
+          let less : element_cmp k x ≡ Less = less_unless (nat_cmp k.array x.array) (nat_cmp k.element x.element) (rest_cmp k x) above.0
+          (sym (turned x k) ∙ other) in (
             all_dedup_from (λ y. element_cmp k y ≡ Less) same_element x xs less
                 (each (λ y. item_cmp x y ≡ Less) (λ y. element_cmp k y ≡ Less) (λ y. before_both k x y less) xs up.0),
             once_from x xs up.0 up.1,
@@ -131,14 +145,19 @@ in_order-sorted items = once (ascending item_cmp items) (ascending-sorted items)
 sorted_further : (xs : List Item) → IsStrictlySortedBy element_cmp xs → IsStrictlySortedBy item_cmp xs
 unfolding IsStrictlySortedBy
 sorted_further [] up = tt
-sorted_further (x ∷ xs) up =
-    (each (λ y. element_cmp x y ≡ Less) (λ y. item_cmp x y ≡ Less) (λ y. less_further (nat_cmp x.array y.array) (nat_cmp x.element y.element) (rest_cmp x y)) xs up.0, sorted_further xs up.1)
+sorted_further (x ∷ xs) up = (
+  each (λ y. element_cmp x y ≡ Less) (λ y. item_cmp x y ≡ Less) (λ y. less_further (nat_cmp x.array y.array)
+      (nat_cmp x.element y.element) (rest_cmp x y)) xs up.0,
+  sorted_further xs up.1,
+)
 
-all_kept : (k : Item) (xs : List Item) → AllByRecursion (λ y. element_cmp k y ≡ Less) xs → IsStrictlySortedBy element_cmp xs → dedup_from same_element k xs ≡ k ∷ xs
+all_kept : (k : Item) (xs : List Item) → AllByRecursion (λ y. element_cmp k y ≡ Less) xs → IsStrictlySortedBy element_cmp xs
+    → dedup_from same_element k xs ≡ k ∷ xs
 unfolding IsStrictlySortedBy
 all_kept k [] above up = refl
 all_kept k (x ∷ xs) above up =
-    ap (λ b. cond b (dedup_from same_element k xs) (k ∷ dedup_from same_element x xs)) (turned x k ∙ ap is_eq above.0) ∙ ap (λ l. k ∷ l) (all_kept x xs up.0 up.1)
+    ap (λ b. cond b (dedup_from same_element k xs) (k ∷ dedup_from same_element x xs)) (turned x k ∙ ap is_eq above.0)
+    ∙ ap (λ l. k ∷ l) (all_kept x xs up.0 up.1)
 
 none_dropped : (xs : List Item) → IsStrictlySortedBy element_cmp xs → dedup same_element xs ≡ xs
 unfolding IsStrictlySortedBy
@@ -148,9 +167,11 @@ none_dropped (x ∷ xs) up = all_kept x xs up.0 up.1
 in_order-same : (xs : List Item) → IsStrictlySortedBy element_cmp xs → in_order xs ≡ xs
 unfolding in_order
 in_order-same xs up =
-    ap (dedup same_element) (sym (ascending-unique item_cmp item_cmp_total item_cmp-IsAntisymmetric xs xs (sorted_further xs up) (λ q. refl))) ∙ none_dropped xs up
+    ap (dedup same_element) (sym (ascending-unique item_cmp item_cmp_total item_cmp-IsAntisymmetric xs xs (sorted_further xs up)
+    (λ q. refl))) ∙ none_dropped xs up
 
-above_owner : (k : Item) (xs : List Item) → AllByRecursion (λ y. element_cmp k y ≡ Less) xs → AllByRecursion (λ y. element_cmp (on_owner k) y ≡ Less) (map on_owner xs)
+above_owner : (k : Item) (xs : List Item) → AllByRecursion (λ y. element_cmp k y ≡ Less) xs
+    → AllByRecursion (λ y. element_cmp (on_owner k) y ≡ Less) (map on_owner xs)
 above_owner k [] h = tt
 above_owner k (x ∷ xs) h = (h.0, above_owner k xs h.1)
 
@@ -176,18 +197,22 @@ own_rows number same (x ∷ xs) rest named =
     ∙ ap (λ b. option_to_list (cond b (Some (on_owner x)) None) ++ more) (is_in_range x.array x.element named.0.0 named.0.1)
     ∙ ap (λ l. on_owner x ∷ l) (own_rows number same xs rest named.1)
 
-other_rows : (number other : ℕ) → int_eq (pos other) (pos number) ≡ false → (xs : List Item) (rest : List ℤ) → asked_items number (flat_map (ask_row other) xs ++ rest) ≡ asked_items number rest
+other_rows : (number other : ℕ) → int_eq (pos other) (pos number) ≡ false → (xs : List Item) (rest : List ℤ)
+    → asked_items number (flat_map (ask_row other) xs ++ rest) ≡ asked_items number rest
 other_rows number other differs [] rest = refl
 other_rows number other differs (x ∷ xs) rest =
     let more = asked_items number (flat_map (ask_row other) xs ++ rest) in
-    ap (λ b. option_to_list (cond b (asked_item (pos x.array) (pos x.element) (pos x.local)) None) ++ more) differs ∙ other_rows number other differs xs rest
+    ap (λ b. option_to_list (cond b (asked_item (pos x.array) (pos x.element) (pos x.local)) None) ++ more) differs
+    ∙ other_rows number other differs xs rest
 
 named_items : (role : Role) (q : ℕ) (needs : List Need) → All IsNamed needs → AllByRecursion IsNamedItem (needed_from role q needs)
 named_items role q needs named = all_needed IsNamedItem role q needs (recursion_from_All IsNamed needs named)
 
-in_order-owner : (role : Role) (q : ℕ) (needs : List Need) → in_order (map on_owner (needed_from role q needs)) ≡ map on_owner (needed_from role q needs)
+in_order-owner : (role : Role) (q : ℕ) (needs : List Need) → in_order (map on_owner (needed_from role q needs)) ≡ map on_owner
+    (needed_from role q needs)
 unfolding needed_from
-in_order-owner role q needs = in_order-same (map on_owner (needed_from role q needs)) (sorted_owner (needed_from role q needs) (in_order-sorted (needed_items role q needs)))
+in_order-owner role q needs = in_order-same (map on_owner (needed_from role q needs)) (sorted_owner (needed_from role q needs)
+    (in_order-sorted (needed_items role q needs)))
 
 reads_asked : (q : ℕ) (needs : List Need) → All IsNamed needs → asked_by 0 (ask_to q needs) ≡ map on_owner (needed_from Read q needs)
 unfolding asked_by ask_to
@@ -220,7 +245,8 @@ targets_asked q needs named =
 at_range : {B : Type 0} (f : ℕ → List B) (a k n : ℕ) → k < n → list_at (map f (range_with_len a n)) k ≡ f (a + k)
 at_range f a k zero h = absurd (omega arith)
 at_range f a zero (suc n) h = ap f (sym (add-zero a))
-at_range f a (suc k) (suc n) h = let less : k < n = omega arith in let more : a + 1 + k ≡ a + suc k = omega arith in at_range f (a + 1) k n less ∙ ap f more
+at_range f a (suc k) (suc n) h = let less : k < n = omega arith in let more : a + 1 + k ≡ a + suc k = omega arith in
+    at_range f (a + 1) k n less ∙ ap f more
 
 by_node : {B : Type 0} (f : ℕ → List B) (q n : ℕ) → q < n → list_at (map f (range_with_len 0 n)) q ≡ f q
 by_node f q n h = let e : 0 + q ≡ q = omega arith in at_range f 0 q n h ∙ ap f e

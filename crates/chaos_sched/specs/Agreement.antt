@@ -26,8 +26,10 @@ IsNamed n = (n.array < 2 ^ 32) × (1 ≤ n.element)
 abbrev pub SidesAgree : Type 0
 SidesAgree = (nodes p q : ℕ) (needs_of_p needs_of_q : List Need) (taken_by_p taken_by_q : List (List ℤ)) → p < nodes → q < nodes
     → All IsNamed needs_of_p → list_at taken_by_q p ≡ list_at (asks_for nodes needs_of_p) q
-    → (list_at (schedule_of nodes needs_of_q taken_by_q).gather_send p ≡ map on_owner (list_at (schedule_of nodes needs_of_p taken_by_p).gather_fetch q))
-    × (list_at (schedule_of nodes needs_of_q taken_by_q).scatter_take p ≡ map on_owner (list_at (schedule_of nodes needs_of_p taken_by_p).scatter_send q))
+    → (list_at (schedule_of nodes needs_of_q taken_by_q).gather_send p ≡ map on_owner
+    (list_at (schedule_of nodes needs_of_p taken_by_p).gather_fetch q))
+    × (list_at (schedule_of nodes needs_of_q taken_by_q).scatter_take p ≡ map on_owner
+    (list_at (schedule_of nodes needs_of_p taken_by_p).scatter_send q))
 
 -- each list of a schedule ascends by array and element, with each element once
 abbrev pub ListsAscend : Type 0

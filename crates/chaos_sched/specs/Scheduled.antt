@@ -1,18 +1,20 @@
 -- What a node asks of the others, and its schedule.
-use Rattle.std.specs.Prelude.{ℕ, ◌<◌, ◌^◌, nat_lt, ℤ, pos, Bool, true, false, ◌&&◌, ◌==◌, List, [], ◌∷◌, ◌++◌, Option, Some, None, map, filter, if◌then◌else◌}
+use Rattle.std.specs.Prelude.{ℕ, ◌<◌, ◌^◌, nat_lt, ℤ, pos, Bool, true, false, ◌&&◌, ◌==◌, List, [], ◌∷◌, ◌++◌, Option, Some, None, map}
+use Rattle.std.specs.Prelude.{filter, if◌then◌else◌}
 use Rattle.std.specs.Option.{option_to_list}
 use Rattle.std.specs.List.{dedup, flat_map, range_with_len}
 use Rattle.std.specs.declared.cmp.Ordering.{Ordering}
 use Rattle.std.specs.Ordering.{nat_cmp, int_eq, ordering_then}
 use Rattle.fd_words.specs.declared.place.Role.{Role}
 use Rattle.fd_words.specs.declared.place.Role.TheVariants.{Index, Read, Target}
-use Rattle.chaos_order.specs.Order.{ascending}
+use Rattle.list_laws.specs.Order.{ascending}
 use Rattle.chaos_sched.specs.declared.item.Item.{Item}
 use Rattle.chaos_sched.specs.declared.need.Need.{Need}
 
 -- by array, element, local address and slot
 abbrev pub item_cmp : Item → Item → Ordering
-item_cmp a b = ordering_then (nat_cmp a.array b.array) (ordering_then (nat_cmp a.element b.element) (ordering_then (nat_cmp a.local b.local) (nat_cmp a.slot b.slot)))
+item_cmp a b = ordering_then (nat_cmp a.array b.array) (ordering_then (nat_cmp a.element b.element)
+    (ordering_then (nat_cmp a.local b.local) (nat_cmp a.slot b.slot)))
 
 abbrev pub same_element : Item → Item → Bool
 same_element a b = (a.array == b.array) && (a.element == b.element)

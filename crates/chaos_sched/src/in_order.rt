@@ -2,7 +2,7 @@ ghost use Rattle.std.specs.Prelude.{◌≡◌};
 ghost use Rattle.chaos_sched.specs.Scheduled.{in_order};
 
 use crate::Item;
-use chaos_order::ascend;
+use list_laws::ascend;
 
 /// Puts items in ascending order by array and element, and keeps one of each element.
 pub fn put_in_order(items: &mut Vec<Item>)

@@ -1,5 +1,6 @@
 -- Pairs noted one after another, and what a list of owners is after them.
-use Rattle.std.proofs.Common.{◌≡◌, refl, ℕ, zero, suc, ◌+◌, ◌*◌, ◌-◌, ◌/◌, ◌≤◌, ◌<◌, Bool, true, false, cond, List, [], ◌∷◌, ◌++◌, length, drop, map, ap, sym, subst, ◌∙◌, arith, get_or}
+use Rattle.std.proofs.Common.{◌≡◌, refl, ℕ, zero, suc, ◌+◌, ◌*◌, ◌-◌, ◌/◌, ◌≤◌, ◌<◌, Bool, true, false, cond, List, [], ◌∷◌, ◌++◌, length}
+use Rattle.std.proofs.Common.{drop, map, ap, sym, subst, ◌∙◌, arith, get_or}
 use Rattle.std.specs.Prelude.{ℤ, pos, negsuc, Option, Some, None, slice_set, replicate, unwrap_or, nat_lt, nat_le, ◌==◌, All}
 use Rattle.std.specs.List.{range_with_len, AllByRecursion}
 use Rattle.std.proofs.lemmas.Bool.Decides.{nat_tests}
@@ -8,7 +9,8 @@ use Rattle.std.proofs.lemmas.List.{drop_more}
 use Rattle.chaos_table.specs.Pages.{pairs_in, all_pairs, node_named, is_element, after_pair, last_owner, owner_by}
 use Rattle.chaos_table.specs.Noting.{place_named, set_at, noted, noted_all}
 
-pub noted_all-append : (first nodes : ℕ) (ps qs : List (ℤ × ℤ)) (owners : List ℕ) → noted_all first nodes (ps ++ qs) owners ≡ noted_all first nodes qs (noted_all first nodes ps owners)
+pub noted_all-append : (first nodes : ℕ) (ps qs : List (ℤ × ℤ)) (owners : List ℕ) → noted_all first nodes (ps ++ qs) owners
+    ≡ noted_all first nodes qs (noted_all first nodes ps owners)
 noted_all-append first nodes [] qs owners = refl
 noted_all-append first nodes (p ∷ ps) qs owners = noted_all-append first nodes ps qs (noted first nodes p owners)
 
@@ -50,13 +52,15 @@ none_left (x ∷ y ∷ rest) (suc i) j at h =
 
 pub pair_step : (first nodes : ℕ) (list : List ℤ) (i : ℕ) (owners new all : List ℕ) → i < length list / 2
     → new ≡ noted first nodes (get_or list (2 * i) (pos 0), get_or list (2 * i + 1) (pos 0)) owners
-    → noted_all first nodes (pairs_in (drop (2 * i) list)) owners ≡ all → noted_all first nodes (pairs_in (drop (2 * (i + 1)) list)) new ≡ all
+    → noted_all first nodes (pairs_in (drop (2 * i) list)) owners ≡ all → noted_all first nodes (pairs_in (drop (2 * (i + 1)) list)) new
+    ≡ all
 pair_step first nodes list i owners new all h is before =
     ap (noted_all first nodes (pairs_in (drop (2 * (i + 1)) list))) is
     ∙ ap (λ ps. noted_all first nodes ps owners) (sym (two_more (pos 0) list i (2 * i) (2 * i + 1) (2 * (i + 1)) refl refl refl h))
     ∙ before
 
-pub list_step : (first nodes : ℕ) (lists : List (List ℤ)) (i : ℕ) (item : List ℤ) (owners new all : List ℕ) → i < length lists → item ≡ get_or lists i item
+pub list_step : (first nodes : ℕ) (lists : List (List ℤ)) (i : ℕ) (item : List ℤ) (owners new all : List ℕ) → i < length lists
+    → item ≡ get_or lists i item
     → new ≡ noted_all first nodes (pairs_in item) owners
     → noted_all first nodes (all_pairs (drop i lists)) owners ≡ all → noted_all first nodes (all_pairs (drop (i + 1) lists)) new ≡ all
 list_step first nodes lists i item owners new all h at is before =
@@ -110,7 +114,8 @@ unchanged true v = refl
 unchanged false v = refl
 
 set_named : (f : ℕ → ℕ) (first size e v : ℕ) (b : Bool) → nat_le first e ≡ b
-    → set_at (cond b (Some (e - first)) None) (Some v) (map f (range_with_len first size)) ≡ map (with_one f e v) (range_with_len first size)
+    → set_at (cond b (Some (e - first)) None) (Some v) (map f (range_with_len first size)) ≡ map (with_one f e v)
+    (range_with_len first size)
 set_named f first size e v true on =
     let low : first ≤ e = grind (arith, nat_tests, on) in
     let at : first + (e - first) ≡ e = omega arith in
@@ -124,7 +129,8 @@ set_none None owners = refl
 set_none (Some at) owners = refl
 
 noted_at : (f : ℕ → ℕ) (first size e : ℕ) (owner : Option ℕ)
-    → set_at (place_named first (pos e)) owner (map f (range_with_len first size)) ≡ map (λ g. cond (e == g) (unwrap_or owner (f g)) (f g)) (range_with_len first size)
+    → set_at (place_named first (pos e)) owner (map f (range_with_len first size))
+    ≡ map (λ g. cond (e == g) (unwrap_or owner (f g)) (f g)) (range_with_len first size)
 noted_at f first size e None =
     set_none (place_named first (pos e)) (map f (range_with_len first size))
     ∙ family-same f (λ g. cond (e == g) (f g) (f g)) first size (λ g. unchanged (e == g) (f g))
@@ -136,18 +142,22 @@ noted-family f first size nodes (pos e, owner) = noted_at f first size e (node_n
 noted-family f first size nodes (negsuc e, owner) = refl
 
 pub noted_all-family : (f : ℕ → ℕ) (first size nodes : ℕ) (pairs : List (ℤ × ℤ))
-    → noted_all first nodes pairs (map f (range_with_len first size)) ≡ map (λ g. last_owner nodes g (f g) pairs) (range_with_len first size)
+    → noted_all first nodes pairs (map f (range_with_len first size)) ≡ map (λ g. last_owner nodes g (f g) pairs)
+    (range_with_len first size)
 noted_all-family f first size nodes [] = refl
 noted_all-family f first size nodes (p ∷ ps) =
-    ap (noted_all first nodes ps) (noted-family f first size nodes p) ∙ noted_all-family (λ g. after_pair nodes g (f g) p) first size nodes ps
+    ap (noted_all first nodes ps) (noted-family f first size nodes p) ∙ noted_all-family (λ g. after_pair nodes g (f g) p) first size
+    nodes ps
 
 zeros : (z a n : ℕ) → replicate n z ≡ map (λ g. z) (range_with_len a n)
 zeros z a zero = refl
 zeros z a (suc n) = ap (λ l. z ∷ l) (zeros z (a + 1) n)
 
 -- from zeros on: the last owner of each element
-pub noted-zeros : (first size nodes : ℕ) (pairs : List (ℤ × ℤ)) → noted_all first nodes pairs (replicate size 0) ≡ map (owner_by nodes pairs) (range_with_len first size)
-noted-zeros first size nodes pairs = ap (noted_all first nodes pairs) (zeros 0 first size) ∙ noted_all-family (λ g. 0) first size nodes pairs
+pub noted-zeros : (first size nodes : ℕ) (pairs : List (ℤ × ℤ)) → noted_all first nodes pairs (replicate size 0)
+    ≡ map (owner_by nodes pairs) (range_with_len first size)
+noted-zeros first size nodes pairs = ap (noted_all first nodes pairs) (zeros 0 first size)
+    ∙ noted_all-family (λ g. 0) first size nodes pairs
 
 -- ---- owners are nodes
 
@@ -166,13 +176,15 @@ either_below false nodes x y h k = k
 pub last_owner-below : (nodes g before : ℕ) (pairs : List (ℤ × ℤ)) → before < nodes → last_owner nodes g before pairs < nodes
 last_owner-below nodes g before [] low = low
 last_owner-below nodes g before (p ∷ ps) low =
-    last_owner-below nodes g (after_pair nodes g before p) ps (either_below (is_element p.0 g) nodes (unwrap_or (node_named nodes p.1) before) before (pair_below nodes before p.1 low) low)
+    last_owner-below nodes g (after_pair nodes g before p) ps
+    (either_below (is_element p.0 g) nodes (unwrap_or (node_named nodes p.1) before) before (pair_below nodes before p.1 low) low)
 
 all_of : (P : ℕ → Type 0) (f : ℕ → ℕ) (a n : ℕ) → ((g : ℕ) → P (f g)) → AllByRecursion P (map f (range_with_len a n))
 all_of P f a zero all = tt
 all_of P f a (suc n) all = (all a, all_of P f (a + 1) n all)
 
-pub owners-below : (nodes first size : ℕ) (pairs : List (ℤ × ℤ)) → 1 ≤ nodes → All (λ o. o < nodes) (map (owner_by nodes pairs) (range_with_len first size))
+pub owners-below : (nodes first size : ℕ) (pairs : List (ℤ × ℤ)) → 1 ≤ nodes
+    → All (λ o. o < nodes) (map (owner_by nodes pairs) (range_with_len first size))
 owners-below nodes first size pairs some =
     All-from_recursion (λ o. o < nodes) (map (owner_by nodes pairs) (range_with_len first size))
     (all_of (λ o. o < nodes) (owner_by nodes pairs) first size (λ g. last_owner-below nodes g 0 pairs (omega arith)))

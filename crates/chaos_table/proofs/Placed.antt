@@ -1,5 +1,6 @@
 -- Places given out in order.
-use Rattle.std.proofs.Common.{◌≡◌, refl, ℕ, zero, suc, ◌+◌, ◌*◌, ◌-◌, ◌≤◌, ◌<◌, Bool, true, false, ◌==◌, cond, List, [], ◌∷◌, ◌++◌, length, take, map, count_by, ap, sym, subst, ◌∙◌, arith, get_or}
+use Rattle.std.proofs.Common.{◌≡◌, refl, ℕ, zero, suc, ◌+◌, ◌*◌, ◌-◌, ◌≤◌, ◌<◌, Bool, true, false, ◌==◌, cond, List, [], ◌∷◌, ◌++◌, length}
+use Rattle.std.proofs.Common.{take, map, count_by, ap, sym, subst, ◌∙◌, arith, get_or}
 use Rattle.std.specs.Prelude.{ℤ, pos, ◌≢◌, All, slice_get, slice_set, unwrap_or, sum_by}
 use Rattle.std.specs.List.{range_with_len, AllByRecursion}
 use Rattle.std.proofs.Common.{inl, inr}
@@ -24,7 +25,8 @@ map-push : {A B : Type 0} (f : A → B) (xs : List A) (x : A) → map f (xs ++ x
 map-push f [] x = refl
 map-push f (y ∷ xs) x = ap (λ l. f y ∷ l) (map-push f xs x)
 
-pub one_more_placed : (before : ℕ → ℕ) (owners : List ℕ) (i : ℕ) → map (place_on before owners) (up_to (i + 1)) ≡ map (place_on before owners) (up_to i) ++ place_on before owners (i + 1) ∷ []
+pub one_more_placed : (before : ℕ → ℕ) (owners : List ℕ) (i : ℕ) → map (place_on before owners) (up_to (i + 1))
+    ≡ map (place_on before owners) (up_to i) ++ place_on before owners (i + 1) ∷ []
 one_more_placed before owners i =
     let e : i + 1 ≡ suc i = omega arith in
     ap (λ k. map (place_on before owners) (up_to k)) e
@@ -37,7 +39,11 @@ one_less i n h = omega arith
 
 -- the next place: the owner at i, behind those that it has before i
 pub place_next : (before : ℕ → ℕ) (owners : List ℕ) (i d : ℕ) → i < length owners
-    → place_on before owners (i + 1) ≡ record { owner = get_or owners i d; local = before (get_or owners i d) + count_by (λ o. o == get_or owners i d) (take i owners) }
+    → place_on before owners (i + 1) ≡ record {
+      owner = get_or owners i d;
+      local = before (get_or owners i d)
+          + count_by (λ o. o == get_or owners i d) (take i owners);
+    }
 place_next before owners i d h =
     let back : i + 1 - 1 ≡ i = omega arith in
     let own : owner_in owners (i + 1) ≡ get_or owners i d = ap (λ k. unwrap_or (slice_get owners k) 0) back ∙ found owners i d h in
@@ -49,9 +55,11 @@ place_next before owners i d h =
     found (x ∷ xs) zero d h = refl
     found (x ∷ xs) (suc i) d h = found xs i d (one_less i (length xs) h)
 
-pub push_placed : (before : ℕ → ℕ) (owners next : List ℕ) (i : ℕ) (places new : List Place) → i < length owners → places ≡ map (place_on before owners) (up_to i)
+pub push_placed : (before : ℕ → ℕ) (owners next : List ℕ) (i : ℕ) (places new : List Place) → i < length owners
+    → places ≡ map (place_on before owners) (up_to i)
     → get_or next (get_or owners i 0) 0 ≡ before (get_or owners i 0) + count_by (λ o. o == get_or owners i 0) (take i owners)
-    → new ≡ places ++ record { owner = get_or owners i 0; local = get_or next (get_or owners i 0) 0 } ∷ [] → new ≡ map (place_on before owners) (up_to (i + 1))
+    → new ≡ places ++ record { owner = get_or owners i 0; local = get_or next (get_or owners i 0) 0 } ∷ []
+    → new ≡ map (place_on before owners) (up_to (i + 1))
 push_placed before owners next i places new h at local pushed =
     pushed
     ∙ ap (λ n. places ++ record { owner = get_or owners i 0; local = n } ∷ []) local
@@ -66,17 +74,21 @@ next_step owners next before i k o h is low now =
     elim (eqb_tells (get_or owners i 0) k) [
       | inl same ↦
           let here : o ≡ k = sym is ∙ same.1 in
-          let set_here : get_or (slice_set next k (get_or next k 0 + 1)) k 0 ≡ get_or next k 0 + 1 = get_or-set_same next k (get_or next k 0 + 1) 0 low in
-          let more : count_by (λ x. x == k) (take (i + 1) owners) ≡ count_by (λ x. x == k) (take i owners) + 1 = count_by_more_yes (λ x. x == k) owners i 0 h same.0 in
+          let set_here : get_or (slice_set next k (get_or next k 0 + 1)) k 0 ≡ get_or next k 0 + 1 =
+          get_or-set_same next k (get_or next k 0 + 1) 0 low in
+          let more : count_by (λ x. x == k) (take (i + 1) owners) ≡ count_by (λ x. x == k) (take i owners) + 1 =
+          count_by_more_yes (λ x. x == k) owners i 0 h same.0 in
           ap (λ y. get_or (slice_set next y (get_or next y 0 + 1)) k 0) here ∙ set_here ∙ omega (arith, more, now)
       | inr other ↦
           let away : k ≢ o = λ e. other.1 (is ∙ sym e) in
-          let same : count_by (λ x. x == k) (take (i + 1) owners) ≡ count_by (λ x. x == k) (take i owners) = count_by_more_no (λ x. x == k) owners i 0 h other.0 in
+          let same : count_by (λ x. x == k) (take (i + 1) owners) ≡ count_by (λ x. x == k) (take i owners) =
+          count_by_more_no (λ x. x == k) owners i 0 h other.0 in
           get_or-set_other next o k (get_or next o 0 + 1) 0 away ∙ now ∙ ap (λ n. before k + n) (sym same)
     ]
 
 -- a list of counts, one node on
-pub counted_more : (f : ℕ → ℕ) (i v : ℕ) (counts new : List ℤ) → counts ≡ map (λ n. pos (f n)) (below i) → new ≡ counts ++ pos v ∷ [] → v ≡ f i
+pub counted_more : (f : ℕ → ℕ) (i v : ℕ) (counts new : List ℤ) → counts ≡ map (λ n. pos (f n)) (below i) → new ≡ counts ++ pos v ∷ []
+    → v ≡ f i
     → new ≡ map (λ n. pos (f n)) (below (i + 1))
 counted_more f i v counts new at pushed is =
     let e : i + 1 ≡ suc i = omega arith in
@@ -95,7 +107,8 @@ family-same f g a zero same = refl
 family-same f g a (suc n) same =
     ap (λ y. y ∷ map f (range_with_len (a + 1) n)) (same a) ∙ ap (λ l. g a ∷ l) (family-same f g (a + 1) n same)
 
-pub places_of-same : (f g : ℕ → ℕ) (owners : List ℕ) (n : ℕ) → 0 < n → ((o : ℕ) → o < n → f o ≡ g o) → All (λ o. o < n) owners → places_of f owners ≡ places_of g owners
+pub places_of-same : (f g : ℕ → ℕ) (owners : List ℕ) (n : ℕ) → 0 < n → ((o : ℕ) → o < n → f o ≡ g o) → All (λ o. o < n) owners
+    → places_of f owners ≡ places_of g owners
 places_of-same f g owners n some same all =
     family-same (place_on f owners) (place_on g owners) 1 (length owners)
     (λ h. ap (λ b. record { owner = owner_in owners h; local = b + local_in owners h })

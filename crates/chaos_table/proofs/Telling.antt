@@ -1,5 +1,6 @@
 -- What a look at a page tells.
-use Rattle.std.proofs.Common.{◌≡◌, refl, ℕ, zero, suc, ◌+◌, ◌*◌, ◌-◌, ◌≤◌, ◌<◌, Bool, true, false, ◌==◌, cond, List, [], ◌∷◌, length, take, map, count_by, ap, sym, subst, ◌∙◌, arith, add-zero}
+use Rattle.std.proofs.Common.{◌≡◌, refl, ℕ, zero, suc, ◌+◌, ◌*◌, ◌-◌, ◌≤◌, ◌<◌, Bool, true, false, ◌==◌, cond, List, [], ◌∷◌, length, take}
+use Rattle.std.proofs.Common.{map, count_by, ap, sym, subst, ◌∙◌, arith, add-zero}
 use Rattle.std.proofs.Common.{inl, inr}
 use Rattle.std.specs.Prelude.{ℤ, Option, Some, None, ◌⊎◌, slice_get, unwrap_or, nat_le}
 use Rattle.std.specs.List.{range_with_len}
@@ -8,18 +9,8 @@ use Rattle.std.proofs.lemmas.Option.{slice_get_past}
 use Rattle.std.proofs.lemmas.List.FromFn.{length-map-range_with_len}
 use Rattle.fd_words.specs.declared.place.Place.{Place}
 use Rattle.chaos_dist.specs.Owners.{owner_in, local_in}
+use Rattle.chaos_dist.specs.OwnersLaws.{get_range}
 use Rattle.chaos_table.specs.Pages.{first_on, size_on, all_pairs, owner_by, owners_on, earlier, place_on, places_of, page_given, look_in}
-
-pub get_range : {B : Type 0} (f : ℕ → B) (a k n : ℕ) → k < n → slice_get (map f (range_with_len a n)) k ≡ Some (f (a + k))
-get_range f a k zero h = absurd (omega arith)
-get_range f a zero (suc n) h = ap (λ x. Some (f x)) (sym (add-zero a))
-get_range f a (suc k) (suc n) h = get_range f (a + 1) k n (less k n h) ∙ ap (λ x. Some (f x)) (more a k)
-  where
-    less : (k n : ℕ) → suc k < suc n → k < n
-    less k n h = omega arith
-
-    more : (a k : ℕ) → a + 1 + k ≡ a + suc k
-    more a k = omega arith
 
 found_if : (b : Bool) (o : Option Place) (p : Place) → b ≡ true → o ≡ Some p → cond b o None ≡ Some p
 found_if true o p on is = is
@@ -31,7 +22,8 @@ pub told : (before : ℕ → ℕ) (owners : List ℕ) (first g : ℕ) → first 
 told before owners first g low high =
     let on : nat_le first g ≡ true = grind (arith, nat_tests) in
     let within : g - first < length owners = omega arith in
-    found_if (nat_le first g) (slice_get (places_of before owners) (g - first)) (place_on before owners (1 + (g - first))) on (get_range (place_on before owners) 1 (g - first) (length owners) within)
+    found_if (nat_le first g) (slice_get (places_of before owners) (g - first)) (place_on before owners (1 + (g - first))) on
+    (get_range (place_on before owners) 1 (g - first) (length owners) within)
 
 pub told_none : (before : ℕ → ℕ) (owners : List ℕ) (first g : ℕ) → (g < first) ⊎ (first + length owners ≤ g)
     → look_in (record { first = first; places = places_of before owners }) g ≡ None
@@ -39,7 +31,8 @@ told_none before owners first g (inl under) =
     let off : nat_le first g ≡ false = grind (arith, nat_tests) in
     ap (λ b. cond b (slice_get (places_of before owners) (g - first)) None) off
 told_none before owners first g (inr over) =
-    let past : length (places_of before owners) ≤ g - first = omega (arith, length-map-range_with_len (place_on before owners) 1 (length owners)) in
+    let past : length (places_of before owners) ≤ g - first =
+    omega (arith, length-map-range_with_len (place_on before owners) 1 (length owners)) in
     ap (λ o. cond (nat_le first g) o None) (slice_get_past (places_of before owners) (g - first) past) ∙ either (nat_le first g)
   where
     either : (b : Bool) → ◌≡◌ {A = Option Place} (cond b None None) None
@@ -47,7 +40,8 @@ told_none before owners first g (inr over) =
     either false = refl
 
 long : (extent nodes page : ℕ) (pairs : List (List ℤ)) → length (owners_on extent nodes page pairs) ≡ size_on extent nodes page
-long extent nodes page pairs = length-map-range_with_len (owner_by nodes (all_pairs pairs)) (first_on extent nodes page) (size_on extent nodes page)
+long extent nodes page pairs = length-map-range_with_len (owner_by nodes (all_pairs pairs)) (first_on extent nodes page)
+    (size_on extent nodes page)
 
 placed_at : (before : ℕ → ℕ) (owners : List ℕ) (k o : ℕ) → slice_get owners k ≡ Some o
     → place_on before owners (1 + k) ≡ record { owner = o; local = before o + count_by (λ x. x == o) (take k owners) }
@@ -57,11 +51,13 @@ placed_at before owners k o is =
     let at : ℕ → ℕ → Place = λ x j. record { owner = x; local = before x + count_by (λ y. y == x) (take j owners) } in
     ap (λ x. at x (1 + k - 1)) own ∙ ap (at o) back
 
-pub tells : (extent nodes page : ℕ) (pairs counts : List (List ℤ)) (g : ℕ) → first_on extent nodes page ≤ g → g < first_on extent nodes page + size_on extent nodes page
+pub tells : (extent nodes page : ℕ) (pairs counts : List (List ℤ)) (g : ℕ) → first_on extent nodes page ≤ g
+    → g < first_on extent nodes page + size_on extent nodes page
     → look_in (page_given extent nodes page pairs counts) g ≡ Some (record {
       owner = owner_by nodes (all_pairs pairs) g;
       local = earlier extent counts page (owner_by nodes (all_pairs pairs) g)
-          + count_by (λ o. o == owner_by nodes (all_pairs pairs) g) (take (g - first_on extent nodes page) (owners_on extent nodes page pairs));
+          + count_by (λ o. o == owner_by nodes (all_pairs pairs) g)
+          (take (g - first_on extent nodes page) (owners_on extent nodes page pairs));
     })
 tells extent nodes page pairs counts g low high =
     let first = first_on extent nodes page in
@@ -69,12 +65,16 @@ tells extent nodes page pairs counts g low high =
     let within : g - first < size_on extent nodes page = omega arith in
     let at : first + (g - first) ≡ g = omega arith in
     let own : slice_get owners (g - first) ≡ Some (owner_by nodes (all_pairs pairs) g) =
-    get_range (owner_by nodes (all_pairs pairs)) first (g - first) (size_on extent nodes page) within ∙ ap (λ h. Some (owner_by nodes (all_pairs pairs) h)) at in
+    get_range (owner_by nodes (all_pairs pairs)) first (g - first) (size_on extent nodes page) within
+    ∙ ap (λ h. Some (owner_by nodes (all_pairs pairs) h)) at in
     told (earlier extent counts page) owners first g low (omega (arith, long extent nodes page pairs))
     ∙ ap Some (placed_at (earlier extent counts page) owners (g - first) (owner_by nodes (all_pairs pairs) g) own)
 
-pub tells_none : (extent nodes page : ℕ) (pairs counts : List (List ℤ)) (g : ℕ) → (g < first_on extent nodes page) ⊎ (first_on extent nodes page + size_on extent nodes page ≤ g)
+pub tells_none : (extent nodes page : ℕ) (pairs counts : List (List ℤ)) (g : ℕ) → (g < first_on extent nodes page)
+    ⊎ (first_on extent nodes page + size_on extent nodes page ≤ g)
     → look_in (page_given extent nodes page pairs counts) g ≡ None
-tells_none extent nodes page pairs counts g (inl under) = told_none (earlier extent counts page) (owners_on extent nodes page pairs) (first_on extent nodes page) g (inl under)
+tells_none extent nodes page pairs counts g (inl under) = told_none (earlier extent counts page) (owners_on extent nodes page pairs)
+    (first_on extent nodes page) g (inl under)
 tells_none extent nodes page pairs counts g (inr over) =
-    told_none (earlier extent counts page) (owners_on extent nodes page pairs) (first_on extent nodes page) g (inr (omega (arith, long extent nodes page pairs)))
+    told_none (earlier extent counts page) (owners_on extent nodes page pairs) (first_on extent nodes page) g
+    (inr (omega (arith, long extent nodes page pairs)))

@@ -1,5 +1,6 @@
 -- A page of a translation table: the places of the elements that it covers.
-use Rattle.std.specs.Prelude.{ℕ, ◌+◌, ◌-◌, ◌*◌, ℤ, pos, negsuc, Bool, false, ◌==◌, min, if◌then◌else◌, List, [], ◌∷◌, map, flat_map, sum_by, length, slice_get, unwrap_or, Option, Some, None, nat_lt, nat_le}
+use Rattle.std.specs.Prelude.{ℕ, ◌+◌, ◌-◌, ◌*◌, ℤ, pos, negsuc, Bool, false, ◌==◌, min, if◌then◌else◌, List, [], ◌∷◌, map, flat_map, sum_by}
+use Rattle.std.specs.Prelude.{length, slice_get, unwrap_or, Option, Some, None, nat_lt, nat_le}
 use Rattle.std.specs.List.{range_with_len}
 use Rattle.chaos_dist.specs.Layout.{divided_up}
 use Rattle.chaos_dist.specs.Counting.{below, up_to}
@@ -62,6 +63,10 @@ abbrev pub counts_of : ℕ → List ℕ → List ℤ
 counts_of nodes owners = map (λ node. pos (length_in owners node)) (below nodes)
 
 -- ---- places
+
+-- the place of element g under a layout
+abbrev pub place_in : List ℕ → ℕ → Place
+place_in owners g = record { owner = owner_in owners g; local = local_in owners g }
 
 -- a count as it was sent: 0 where it is missing, below 0 or over the extent
 abbrev pub sound_count : ℕ → Option ℤ → ℕ

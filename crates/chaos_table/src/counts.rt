@@ -1,12 +1,10 @@
-ghost use Rattle.std.specs.Prelude.{◌≡◌, ◌≤◌, ◌<◌, ◌==◌, slice_index, EachIndex, ◌++◌, ◌∷◌, [], count_by, length, pos, OnOk, IfOk};
+ghost use Rattle.std.specs.Prelude.{◌≡◌, ◌≤◌, ◌<◌, ◌++◌, ◌∷◌, [], length, pos, OnOk, IfOk};
 ghost use Rattle.chaos_table.specs.Pages.{counts_of, owners_on};
 
 use crate::owners::owners_given;
+use chaos_dist::tally;
 use fd_words::{Memory, NumberLists, Numbers};
 use std::alloc::Global;
-
-/// The most nodes that there can be.
-pub(crate) const MOST_NODES: usize = 16;
 
 /// For each node the number of elements of a page that it owns. List q of `pairs` has pairs of an
 /// element and its owner; of several pairs of an element the last counts, an element without a pair
@@ -40,20 +38,6 @@ fn counts(alloc: Global, nodes: u32, owners: &[u32]) -> Result<Numbers, Memory>
         note(&mut counts, tally[node as usize])?;
     }
     Ok(counts)
-}
-
-/// How many of the owners each node is.
-fn tally(owners: &[u32]) -> [u64; MOST_NODES]
-    ensures { EachIndex result (λ node. slice_index result node ≡ count_by (λ o. o == node) owners.now) }
-{
-    let mut counts = [0; MOST_NODES];
-    for owner in owners {
-        let node = *owner as usize;
-        if node < MOST_NODES {
-            counts[node] += 1;
-        }
-    }
-    counts
 }
 
 /// Appends a count.

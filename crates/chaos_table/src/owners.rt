@@ -61,7 +61,8 @@ fn note_pairs(first: u64, nodes: u32, list: &[i64], owners: &mut Vec<u32>)
 
 fn note_at(first: u64, nodes: u32, list: &[i64], at: usize, owners: &mut Vec<u32>)
     requires { at + 1 < length list.now }
-    ensures { owners.new.items ≡ noted first nodes (slice_index_or list.now at (pos 0), slice_index_or list.now (at + 1) (pos 0)) owners.old.items }
+    ensures { owners.new.items ≡ noted first nodes (slice_index_or list.now at (pos 0), slice_index_or list.now (at + 1) (pos 0))
+        owners.old.items }
 {
     note(first, nodes, list[at], list[at + 1], owners);
 }

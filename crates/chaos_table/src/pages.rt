@@ -2,9 +2,9 @@ ghost use Rattle.std.specs.Prelude.{◌≡◌, ◌≤◌, ◌<◌, ◌*◌, ◌=
 ghost use Rattle.fd_words.specs.Lists.{list_at};
 ghost use Rattle.chaos_table.specs.Pages.{page_given, look_in, places_of, earlier, sound_count};
 
-use crate::counts::MOST_NODES;
 use crate::owners::owners_given;
 use crate::width::first;
+use chaos_dist::MOST_NODES;
 use fd_words::{Memory, NumberLists, Place, Places};
 use std::alloc::Global;
 

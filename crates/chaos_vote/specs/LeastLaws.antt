@@ -1,6 +1,7 @@
 -- What the least of some votes is.
 use Rattle.std.specs.Prelude.{◌↔◌, All, Contains, MatchOption, IfSome, IsNone}
-use Rattle.std.proofs.Common.{◌≡◌, refl, ℕ, suc, ◌+◌, ◌<◌, ◌≤◌, Bool, true, false, cond, List, [], ◌∷◌, length, get_or, drop, Option, Some, None, ap, sym, ◌∙◌, subst, arith}
+use Rattle.std.proofs.Common.{◌≡◌, refl, ℕ, suc, ◌+◌, ◌<◌, ◌≤◌, Bool, true, false, cond, List, [], ◌∷◌, length, get_or, drop, Option, Some}
+use Rattle.std.proofs.Common.{None, ap, sym, ◌∙◌, subst, arith}
 use Rattle.std.proofs.lemmas.Int.{ints}
 use Rattle.std.proofs.lemmas.Bool.Decides.{nat_tests}
 use Rattle.std.proofs.lemmas.List.{at_drop_more, at_drop_all}
@@ -53,7 +54,8 @@ lesser_assoc (Some a) (Some b) (Some c) = of_three a b c (is_less b a) (is_less 
 
 -- ---- the steps of the loop
 
-pub next_vote : (votes : List (Option Offence)) (i : ℕ) (d least new : Option Offence) → i < length votes → new ≡ lesser least (get_or votes i d)
+pub next_vote : (votes : List (Option Offence)) (i : ℕ) (d least new : Option Offence) → i < length votes
+    → new ≡ lesser least (get_or votes i d)
     → lesser least (least_of (drop i votes)) ≡ least_of votes → lesser new (least_of (drop (i + 1) votes)) ≡ least_of votes
 next_vote votes i d least new inside e h =
     ap (λ v. lesser v (least_of (drop (i + 1) votes))) e

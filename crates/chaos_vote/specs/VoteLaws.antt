@@ -1,5 +1,6 @@
 -- A vote is read back from its numbers.
-use Rattle.std.specs.Prelude.{◌≡◌, refl, ℕ, suc, ◌-◌, ◌*◌, ◌/◌, ◌^◌, ◌%◌, ◌<◌, ◌≤◌, ◌⊎◌, nat_lt, false, cond, ℤ, pos, negsuc, ◌+ℤ◌, ◌*ℤ◌, Some}
+use Rattle.std.specs.Prelude.{◌≡◌, refl, ℕ, suc, ◌-◌, ◌*◌, ◌/◌, ◌^◌, ◌%◌, ◌<◌, ◌≤◌, ◌⊎◌, nat_lt, false, cond, ℤ, pos, negsuc, ◌+ℤ◌, ◌*ℤ◌}
+use Rattle.std.specs.Prelude.{Some}
 use Rattle.std.specs.Int.{w64, int_wrap, int_rem_euclid}
 use Rattle.std.proofs.Common.{ap, ◌∙◌, arith, inl, inr, to_z, mod-eq_of_lt}
 use Rattle.std.proofs.lemmas.Int.{ints, int_rem_euclid_is}
@@ -38,5 +39,11 @@ of_halves-halves (negsuc a) =
 
 pub read_vote-numbers : (o : Offence) → o.reference < 2 ^ 32 → read_vote (vote_numbers (Some o)) ≡ Some o
 read_vote-numbers o small =
-    ap (λ n. Some (let back : Offence = record { iteration = o.iteration; reference = n; subscript = of_halves (high_half o.subscript) (low_half o.subscript) } in back)) (mod-eq_of_lt small)
-    ∙ ap (λ z. Some (let back : Offence = record { iteration = o.iteration; reference = o.reference; subscript = z } in back)) (of_halves-halves o.subscript)
+    ap (λ n. Some (let back : Offence = record {
+      iteration = o.iteration;
+      reference = n;
+      subscript = of_halves (high_half o.subscript)
+          (low_half o.subscript);
+    } in back)) (mod-eq_of_lt small)
+    ∙ ap (λ z. Some (let back : Offence = record { iteration = o.iteration; reference = o.reference; subscript = z } in back))
+    (of_halves-halves o.subscript)

@@ -1,5 +1,6 @@
 -- The least of the nodes' offences, and an offence as a letter's numbers.
-use Rattle.std.specs.Prelude.{◌≡◌, ⊤, false, All, IfSome, ◌^◌, nat_lt, int_lt, ℤ, pos, ◌+ℤ◌, ◌*ℤ◌, Bool, ◌&&◌, ◌||◌, if◌then◌else◌, List, [], ◌∷◌, Option, Some, None, unsigned_abs}
+use Rattle.std.specs.Prelude.{◌≡◌, ⊤, false, All, IfSome, ◌^◌, nat_lt, int_lt, ℤ, pos, ◌+ℤ◌, ◌*ℤ◌, Bool, ◌&&◌, ◌||◌, if◌then◌else◌, List}
+use Rattle.std.specs.Prelude.{[], ◌∷◌, Option, Some, None, unsigned_abs}
 use Rattle.std.specs.Int.{w64, int_wrap, int_div_euclid, int_rem_euclid}
 use Rattle.std.specs.Ordering.{int_eq}
 use Rattle.fd_words.specs.declared.place.Offence.{Offence}
@@ -49,5 +50,9 @@ vote_numbers (Some o) = o.iteration ∷ pos o.reference ∷ high_half o.subscrip
 -- the vote that has these numbers; of a second number that is no reference its remainder by 2^32
 abbrev pub read_vote : List ℤ → Option Offence
 read_vote (iteration ∷ reference ∷ high ∷ low ∷ []) =
-    Some (record { iteration = iteration; reference = unsigned_abs (int_rem_euclid reference (pos (2 ^ 32))); subscript = of_halves high low })
+    Some (record {
+      iteration = iteration;
+      reference = unsigned_abs (int_rem_euclid reference (pos (2 ^ 32)));
+      subscript = of_halves high low;
+    })
 read_vote _ = None

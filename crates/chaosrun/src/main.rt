@@ -1,23 +1,13 @@
 //! Runs a program on its nodes, on threads.
 #![tactic(auto)]
 
-use bsp_mail::Mail;
-use fd_outside::{HostFiles, HostSink, OpenGate};
-use fd_top::run_program;
-use std::alloc::Global;
-use std::env;
-use std::env::Env;
+use fd_top::{HostFiles, HostSink, Mail, OpenGate, run_program, words};
 use std::process::ExitCode;
 
-/// The words behind the program's name; none where one of them is no text.
-fn words<R: Env + Alloc<A = Global>>(rt: &R) -> Option<Vec<String>> {
-    let args = env::args(rt).ok()?;
-    args.skip(1).collect(rt.alloc()).ok()
-}
-
 fn main(rt: HostRuntime) -> ExitCode {
-    let Some(words) = words(&rt) else {
-        return ExitCode::from(2);
+    let words = match words(&rt) {
+        Ok(words) => words,
+        Err(stop) => return ExitCode::from(stop.status()),
     };
     let Ok(mut mail) = Mail::new(rt.alloc()) else {
         return ExitCode::from(70);

@@ -1,5 +1,6 @@
 -- Where nothing is at fault along a walk, each of its steps may use that.
-use Rattle.std.proofs.Common.{◌≡◌, refl, ℕ, ◌+◌, ◌<◌, suc, zero, Bool, true, false, arith, List, [], ◌∷◌, ◌++◌, Option, Some, None, length, get_or, ap, sym, subst}
+use Rattle.std.proofs.Common.{◌≡◌, refl, ℕ, ◌+◌, ◌<◌, suc, zero, Bool, true, false, arith, List, [], ◌∷◌, ◌++◌, Option, Some, None, length}
+use Rattle.std.proofs.Common.{get_or, ap, sym, subst}
 use Rattle.std.specs.Prelude.{fold, not, ◌||◌, is_some, slice_get, IsSomeAnd, All}
 use Rattle.std.specs.List.{AllZip}
 use Rattle.std.proofs.lemmas.List.Elements.{All-head, All-tail}
@@ -64,7 +65,8 @@ slice_get-last [] x = refl
 slice_get-last (y ∷ xs) x = slice_get-last xs x
 
 -- an element behind one more is an earlier one, or that one
-pub slice_get-push : {A : Type 0} (P : ℕ → A → Type 0) (xs : List A) (x : A) → ((k : ℕ) (y : A) → slice_get xs k ≡ Some y → P k y) → P (length xs) x
+pub slice_get-push : {A : Type 0} (P : ℕ → A → Type 0) (xs : List A) (x : A) → ((k : ℕ) (y : A) → slice_get xs k ≡ Some y → P k y)
+    → P (length xs) x
     → (k : ℕ) (y : A) → slice_get (xs ++ x ∷ []) k ≡ Some y → P k y
 slice_get-push P [] x old new zero y e = let f : x ≡ y = cc in subst (P 0) f new
 slice_get-push P [] x old new (suc k) y e = cc
@@ -79,7 +81,8 @@ zip_length R [] (y ∷ ys) z = absurd z
 zip_length R (x ∷ xs) [] z = absurd z
 zip_length R (x ∷ xs) (y ∷ ys) z = ap suc (zip_length R xs ys z.1)
 
-pub zip_at : {A B : Type 0} (R : A → B → Type 0) (xs : List A) (ys : List B) (i : ℕ) (d : A) (e : B) → AllZip R xs ys → i < length xs → R (get_or xs i d) (get_or ys i e)
+pub zip_at : {A B : Type 0} (R : A → B → Type 0) (xs : List A) (ys : List B) (i : ℕ) (d : A) (e : B) → AllZip R xs ys → i < length xs
+    → R (get_or xs i d) (get_or ys i e)
 zip_at R [] [] i d e z within = absurd (omega arith)
 zip_at R [] (y ∷ ys) i d e z within = absurd z
 zip_at R (x ∷ xs) [] i d e z within = absurd z

@@ -1,5 +1,6 @@
 -- The statements of a loop, where nothing in the loop is at fault.
-use Rattle.std.proofs.Common.{◌≡◌, ◌≢◌, refl, ℕ, zero, suc, ◌≤◌, ◌<◌, ◌+◌, ◌-◌, Bool, true, false, if◌then◌else◌, arith, List, [], ◌∷◌, ◌++◌, length, length-append, get_or, Option, Some, None, ap, sym, ◌∙◌, subst, add-one, ◌⊎◌, inl, inr}
+use Rattle.std.proofs.Common.{◌≡◌, ◌≢◌, refl, ℕ, zero, suc, ◌≤◌, ◌<◌, ◌+◌, ◌-◌, Bool, true, false, if◌then◌else◌, arith, List, [], ◌∷◌}
+use Rattle.std.proofs.Common.{◌++◌, length, length-append, get_or, Option, Some, None, ap, sym, ◌∙◌, subst, add-one, ◌⊎◌, inl, inr}
 use Rattle.std.specs.Prelude.{All, AllPairs, Any, not, ◌&&◌, ◌||◌, is_some, nat_le, slice_get, unwrap_or, IsSome}
 use Rattle.std.specs.List.{AllZip, list_any}
 use Rattle.std.specs.Cmp.Lexicographic.{other_text}
@@ -34,12 +35,16 @@ use Rattle.fd_loops.specs.declared.draft.Draft.{Draft}
 use Rattle.fd_loops.specs.declared.draft.Stamped.{Stamped}
 use Rattle.fd_loops.specs.declared.draft.Target.{Target}
 use Rattle.fd_resolve.specs.declared.around.Around.{Around}
-use Rattle.fd_loops.specs.Bodies.{after_name, name_value, after_expr, resolved_expr, expr_faults, is_plain, plain_faults, checked_body, behind_target, with_body, after_written, written_faults, after_body, body_faults}
-use Rattle.fd_loops.specs.Drafts.{is_crowded, with_reference, is_worn, stamp_in, with_stamp, same_operator, is_assigned, is_reduced, is_other, is_reduced_otherwise, clash_faults, after_target}
-use Rattle.fd_loops.specs.Elements.{index_reference, after_index, after_own_stamp, own_reference, after_own, after_element, element_number, element_faults}
+use Rattle.fd_loops.specs.Bodies.{after_name, name_value, after_expr, resolved_expr, expr_faults, is_plain, plain_faults, checked_body}
+use Rattle.fd_loops.specs.Bodies.{behind_target, with_body, after_written, written_faults, after_body, body_faults}
+use Rattle.fd_loops.specs.Drafts.{is_crowded, with_reference, is_worn, stamp_in, with_stamp, same_operator, is_assigned, is_reduced}
+use Rattle.fd_loops.specs.Drafts.{is_other, is_reduced_otherwise, clash_faults, after_target}
+use Rattle.fd_loops.specs.Elements.{index_reference, after_index, after_own_stamp, own_reference, after_own, after_element, element_number}
+use Rattle.fd_loops.specs.Elements.{element_faults}
 use Rattle.fd_resolve.specs.Resolve.{array_of, named, subscript_resolved, subscript_marks}
 use Rattle.fd_checks.specs.Walks.{site_of}
-use Rattle.fd_checks.proofs.Accepted.{left_empty, right_empty, test_false, not_false, true_not_false, is_some-some, slice_get-front, slice_get-last, slice_get-push, some_and, some_and-is}
+use Rattle.fd_checks.proofs.Accepted.{left_empty, right_empty, test_false, not_false, true_not_false, is_some-some, slice_get-front}
+use Rattle.fd_checks.proofs.Accepted.{slice_get-last, slice_get-push, some_and, some_and-is}
 use Rattle.fd_checks.proofs.References.{own_room, own_known, own_added, number_of_own, AreReferred, element_referred}
 use Rattle.fd_checks.proofs.Shapes.{after_own_stamp-references, after_target-references}
 use Rattle.fd_checks.proofs.Terms.{after_own_stamp-terms, after_target-terms}
@@ -88,16 +93,19 @@ module _ (h : Head) (a : Around) where
   own_grows : (role : Role) (d : Draft) (e : Element) → Grows d (after_own h a role d e)
   own_grows role d e = by_test (is_crowded d)
     where
-      by_test : (b : Bool) → Grows d (if b then d else with_reference (after_own_stamp h a d e.subscript (array_of h a e.name)) (own_reference h a d role e))
+      by_test : (b : Bool) → Grows d (if b then d else with_reference (after_own_stamp h a d e.subscript (array_of h a e.name))
+          (own_reference h a d role e))
       by_test true = stays d d refl refl
       by_test false =
           let x = after_own_stamp h a d e.subscript (array_of h a e.name) in
           grows_more d x (with_reference x (own_reference h a d role e))
-          (stays d x (after_own_stamp-references h a d e.subscript (array_of h a e.name)) (after_own_stamp-terms h a d e.subscript (array_of h a e.name)))
+          (stays d x (after_own_stamp-references h a d e.subscript (array_of h a e.name)) (after_own_stamp-terms h a d e.subscript
+          (array_of h a e.name)))
           (with_grows x (own_reference h a d role e))
 
   pub element_grows : (role : Role) (d : Draft) (e : Element) → Grows d (after_element h a role d e)
-  element_grows role d e = grows_more d (after_index h a d e.subscript) (after_element h a role d e) (index_grows d e.subscript) (own_grows role (after_index h a d e.subscript) e)
+  element_grows role d e = grows_more d (after_index h a d e.subscript) (after_element h a role d e) (index_grows d e.subscript)
+      (own_grows role (after_index h a d e.subscript) e)
 
 module _ (h : Head) (a : Around) (index : List ℕ) where
   name_grows : (d : Draft) (name : List ℕ) (at : SourcePlace) → Grows d (after_name h a index d name at)
@@ -119,15 +127,21 @@ module _ (h : Head) (a : Around) (index : List ℕ) where
 -- ---- the reference with a number
 
 role_later : (d e : Draft) (role : Role) (n : ℕ) → Grows d e → HasRole d.references role n → HasRole e.references role n
-role_later d e role n g has = (has.0, some_and (slice_get d.references (n - 1)) (slice_get e.references (n - 1)) (λ (r : Reference). r.role ≡ role) (λ r. g.references (n - 1) r) has.1)
+role_later d e role n g has = (
+  has.0,
+  some_and (slice_get d.references (n - 1)) (slice_get e.references (n - 1))
+      (λ (r : Reference). r.role ≡ role) (λ r. g.references (n - 1) r) has.1,
+)
 
-expr_later : (d e : Draft) → Grows d e → (x : checked.CheckedExpr) → IsExpr d.references (length d.terms) x → IsExpr e.references (length e.terms) x
+expr_later : (d e : Draft) → Grows d e → (x : checked.CheckedExpr) → IsExpr d.references (length d.terms) x
+    → IsExpr e.references (length e.terms) x
 expr_later d e g (checked.Number value) is = tt
 expr_later d e g checked.Index is = tt
 expr_later d e g (checked.Term place) is = let n : length d.terms ≤ length e.terms = g.terms in omega arith
 expr_later d e g (checked.Read number) is = role_later d e role.Read number g is
 expr_later d e g (checked.Negate' s (checked.more_of-CheckedExpr inner checked.end_of-CheckedExpr)) is = expr_later d e g inner is
-expr_later d e g (checked.Binary' op s (checked.more_of-CheckedExpr left checked.end_of-CheckedExpr) t (checked.more_of-CheckedExpr right checked.end_of-CheckedExpr)) is =
+expr_later d e g (checked.Binary' op s (checked.more_of-CheckedExpr left checked.end_of-CheckedExpr) t
+    (checked.more_of-CheckedExpr right checked.end_of-CheckedExpr)) is =
     (expr_later d e g left is.0, expr_later d e g right is.1)
 
 place_behind : (n place : ℕ) → n ≡ suc place → n - 1 ≡ place
@@ -136,32 +150,43 @@ place_behind n place e = omega arith
 some_number : (n place : ℕ) → n ≡ suc place → 1 ≤ n
 some_number n place e = omega arith
 
-role_at : (rs : List Reference) (role : Role) (n place : ℕ) (r : Reference) → n ≡ suc place → slice_get rs place ≡ Some r → r.role ≡ role → HasRole rs role n
-role_at rs role n place r e there is =
-    (some_number n place e, some_and-is (slice_get rs (n - 1)) r (λ (x : Reference). x.role ≡ role) (ap (slice_get rs) (place_behind n place e) ∙ there) is)
+role_at : (rs : List Reference) (role : Role) (n place : ℕ) (r : Reference) → n ≡ suc place → slice_get rs place ≡ Some r → r.role ≡ role
+    → HasRole rs role n
+role_at rs role n place r e there is = (
+  some_number n place e,
+  some_and-is (slice_get rs (n - 1)) r (λ (x : Reference). x.role ≡ role)
+      (ap (slice_get rs) (place_behind n place e) ∙ there) is,
+)
 
 module _ (h : Head) (a : Around) where
   pub own_there : (role : Role) (d : Draft) (e : Element) → is_crowded (after_index h a d e.subscript) ≡ false
-      → slice_get (after_element h a role d e).references (length (after_index h a d e.subscript).references) ≡ Some (own_reference h a (after_index h a d e.subscript) role e)
+      → slice_get (after_element h a role d e).references (length (after_index h a d e.subscript).references)
+      ≡ Some (own_reference h a (after_index h a d e.subscript) role e)
   own_there role d e room =
       let x = after_index h a d e.subscript in
-      subst (λ (l : List Reference). slice_get l (length x.references) ≡ Some (own_reference h a x role e)) (sym (own_added h a role x e room)) (slice_get-last x.references (own_reference h a x role e))
+      subst (λ (l : List Reference). slice_get l (length x.references) ≡ Some (own_reference h a x role e))
+      (sym (own_added h a role x e room)) (slice_get-last x.references (own_reference h a x role e))
 
-  own_role : (role : Role) (d : Draft) (e : Element) → is_crowded (after_index h a d e.subscript) ≡ false → HasRole (after_element h a role d e).references role (element_number h a d e)
+  own_role : (role : Role) (d : Draft) (e : Element) → is_crowded (after_index h a d e.subscript) ≡ false
+      → HasRole (after_element h a role d e).references role (element_number h a d e)
   own_role role d e room =
-      role_at (after_element h a role d e).references role (element_number h a d e) (length (after_index h a d e.subscript).references) (own_reference h a (after_index h a d e.subscript) role e)
+      role_at (after_element h a role d e).references role (element_number h a d e) (length (after_index h a d e.subscript).references)
+      (own_reference h a (after_index h a d e.subscript) role e)
       (number_of_own h a d e room) (own_there role d e room) refl
 
 module _ (h : Head) (a : Around) (index : List ℕ) where
-  name_is : (d : Draft) (name : List ℕ) (at : SourcePlace) → IsExpr (after_name h a index d name at).references (length (after_name h a index d name at).terms) (name_value index d name)
+  name_is : (d : Draft) (name : List ℕ) (at : SourcePlace) → IsExpr (after_name h a index d name at).references
+      (length (after_name h a index d name at).terms) (name_value index d name)
   name_is d name at = by_test (name_eq name index)
     where
       by_test : (b : Bool) → IsExpr (if b then d else record d { terms = d.terms ++ named h a name at ∷ [] }).references
-          (length (if b then d else record d { terms = d.terms ++ named h a name at ∷ [] }).terms) (if b then checked.Index else checked.Term (length d.terms))
+          (length (if b then d else record d { terms = d.terms ++ named h a name at ∷ [] }).terms)
+          (if b then checked.Index else checked.Term (length d.terms))
       by_test true = tt
       by_test false = omega (arith, length-append d.terms (named h a name at ∷ []))
 
-  pub value_is : (e : Expr) (d : Draft) → expr_faults h a index d e ≡ [] → IsExpr (after_expr h a index d e).references (length (after_expr h a index d e).terms) (resolved_expr h a index d e)
+  pub value_is : (e : Expr) (d : Draft) → expr_faults h a index d e ≡ [] → IsExpr (after_expr h a index d e).references
+      (length (after_expr h a index d e).terms) (resolved_expr h a index d e)
   value_is (Number value) d none = tt
   value_is (Named name at) d none = name_is d name at
   value_is (Read element) d none = own_role h a role.Read d element (own_room h a d element none)
@@ -192,14 +217,18 @@ plain_resolved h a (Plain add) e = tt
 plain_resolved h a (Through index_array at inner_add add) e = cc
 plain_resolved h a (Scalar s) e = cc
 
-plain_known : (operator : Option Combine) (target : Element) → plain_faults operator target ≡ [] → operator ≡ None → is_plain target.subscript ≡ true
-plain_known None target none e = not_false (is_plain target.subscript) (test_false (not (is_plain target.subscript)) target.at cause.AssignThroughIndex none)
+plain_known : (operator : Option Combine) (target : Element) → plain_faults operator target ≡ [] → operator ≡ None
+    → is_plain target.subscript ≡ true
+plain_known None target none e = not_false (is_plain target.subscript) (test_false (not (is_plain target.subscript)) target.at
+    cause.AssignThroughIndex none)
 plain_known (Some operator) target none e = cc
 
-statement_later : (h : Head) (a : Around) (loop : Loop) (d e : Draft) → Grows d e → (s : CheckedBody) → IsStatement (site_of h a loop d) s → IsStatement (site_of h a loop e) s
+statement_later : (h : Head) (a : Around) (loop : Loop) (d e : Draft) → Grows d e → (s : CheckedBody) → IsStatement (site_of h a loop d) s
+    → IsStatement (site_of h a loop e) s
 statement_later h a loop d e g s is = record {
   target = role_later d e role.Target (target_of s) g is.target;
-  plain = λ e'. some_and (slice_get d.references (target_of s - 1)) (slice_get e.references (target_of s - 1)) (λ (r : Reference). IsPlain r.subscript) (λ r. g.references (target_of s - 1) r) (is.plain e');
+  plain = λ e'. some_and (slice_get d.references (target_of s - 1)) (slice_get e.references (target_of s - 1))
+      (λ (r : Reference). IsPlain r.subscript) (λ r. g.references (target_of s - 1) r) (is.plain e');
   value = expr_later d e g (expr_of s) is.value;
 }
 
@@ -214,7 +243,8 @@ pub record IsTarget (h : Head) (a : Around) (references : List Reference) (t : T
   pub array : array_of h a t.name ≡ Some reference.array
   pub operator : operator_of s ≡ t.operator
 
-target_later : (h : Head) (a : Around) (d e : Draft) → Grows d e → (t : Target) (s : CheckedBody) → IsTarget h a d.references t s → IsTarget h a e.references t s
+target_later : (h : Head) (a : Around) (d e : Draft) → Grows d e → (t : Target) (s : CheckedBody) → IsTarget h a d.references t s
+    → IsTarget h a e.references t s
 target_later h a d e g t s is = record {
   place = is.place;
   reference = is.reference;
@@ -224,13 +254,15 @@ target_later h a d e g t s is = record {
   operator = is.operator;
 }
 
-pub zip_push : {A B : Type 0} (R : A → B → Type 0) (xs : List A) (ys : List B) (x : A) (y : B) → AllZip R xs ys → R x y → AllZip R (xs ++ x ∷ []) (ys ++ y ∷ [])
+pub zip_push : {A B : Type 0} (R : A → B → Type 0) (xs : List A) (ys : List B) (x : A) (y : B) → AllZip R xs ys → R x y
+    → AllZip R (xs ++ x ∷ []) (ys ++ y ∷ [])
 zip_push R [] [] x y z r = (r, tt)
 zip_push R [] (w ∷ ws) x y z r = absurd z
 zip_push R (v ∷ vs) [] x y z r = absurd z
 zip_push R (v ∷ vs) (w ∷ ws) x y z r = (z.0, zip_push R vs ws x y z.1 r)
 
-pub zip_weaker : {A B : Type 0} (R S : A → B → Type 0) → ((x : A) (y : B) → R x y → S x y) → (xs : List A) (ys : List B) → AllZip R xs ys → AllZip S xs ys
+pub zip_weaker : {A B : Type 0} (R S : A → B → Type 0) → ((x : A) (y : B) → R x y → S x y) → (xs : List A) (ys : List B) → AllZip R xs ys
+    → AllZip S xs ys
 zip_weaker R S f [] [] z = tt
 zip_weaker R S f [] (y ∷ ys) z = z
 zip_weaker R S f (x ∷ xs) [] z = z
@@ -284,32 +316,40 @@ with_operator : (o : Option Combine) (p : Combine) → is_some o ≡ true → is
 with_operator None p e f = cc
 with_operator (Some o) p e f = ap Some (one_operator o p (not_false (same_operator o p) f))
 
-alike_new : (targets : List Target) (name : List ℕ) (operator : Option Combine) (at : SourcePlace) → clash_faults targets name operator at ≡ []
+alike_new : (targets : List Target) (name : List ℕ) (operator : Option Combine) (at : SourcePlace) → clash_faults targets name operator at
+    ≡ []
     → (k : ℕ) (d : Target) → k < length targets → Alike (get_or targets k d) (record { name = name; operator = operator })
 alike_new targets name None at none k d within = λ same.
     let t = get_or targets k d in
     absurd (both_ways (name_eq name t.name) (is_some t.operator) (name_same t.name name same)
-    (any_false _ targets (test_false (is_assigned targets name) at (cause.TwoAssigns name) (left_empty _ (fault_if (is_reduced targets name) at (cause.AssignAndReduce name)) none)) k d within)
-    (any_false _ targets (test_false (is_reduced targets name) at (cause.AssignAndReduce name) (right_empty (fault_if (is_assigned targets name) at (cause.TwoAssigns name)) _ none)) k d within))
+    (any_false _ targets (test_false (is_assigned targets name) at (cause.TwoAssigns name)
+    (left_empty _ (fault_if (is_reduced targets name) at (cause.AssignAndReduce name)) none)) k d within)
+    (any_false _ targets (test_false (is_reduced targets name) at (cause.AssignAndReduce name)
+    (right_empty (fault_if (is_assigned targets name) at (cause.TwoAssigns name)) _ none)) k d within))
 alike_new targets name (Some operator) at none k d within = λ same.
     let t = get_or targets k d in
     let named = name_same t.name name same in
-    let some : is_some t.operator ≡ true = not_false (is_some t.operator) (second_false (name_eq name t.name) (not (is_some t.operator)) named
-    (any_false _ targets (test_false (is_assigned targets name) at (cause.AssignAndReduce name) (left_empty _ (fault_if (is_reduced_otherwise targets name operator) at (cause.TwoOperators name)) none)) k d within)) in
+    let some : is_some t.operator ≡ true = not_false (is_some t.operator) (second_false (name_eq name t.name) (not (is_some t.operator))
+    named
+    (any_false _ targets (test_false (is_assigned targets name) at (cause.AssignAndReduce name)
+    (left_empty _ (fault_if (is_reduced_otherwise targets name operator) at (cause.TwoOperators name)) none)) k d within)) in
     let other : is_other t.operator operator ≡ false = second_false (name_eq name t.name) (is_other t.operator operator) named
-    (any_false _ targets (test_false (is_reduced_otherwise targets name operator) at (cause.TwoOperators name) (right_empty (fault_if (is_assigned targets name) at (cause.AssignAndReduce name)) _ none)) k d within) in
+    (any_false _ targets (test_false (is_reduced_otherwise targets name operator) at (cause.TwoOperators name)
+    (right_empty (fault_if (is_assigned targets name) at (cause.AssignAndReduce name)) _ none)) k d within) in
     (some, with_operator t.operator operator some other)
 
 -- ---- which targets have a statement
 
 -- each target is that of a statement
 abbrev pub AreTargets : List Reference → List CheckedBody → Type 0
-AreTargets rs body = (place : ℕ) (r : Reference) → slice_get rs place ≡ Some r → r.role ≡ role.Target → Any (λ s. target_of s ≡ place + 1) body
+AreTargets rs body = (place : ℕ) (r : Reference) → slice_get rs place ≡ Some r → r.role ≡ role.Target
+    → Any (λ s. target_of s ≡ place + 1) body
 
 -- each but the one with this number
 abbrev pub Pending : List Reference → List CheckedBody → ℕ → Type 0
 Pending rs body n =
-    (place : ℕ) (r : Reference) → slice_get rs place ≡ Some r → r.role ≡ role.Target → Any (λ s. target_of s ≡ place + 1) body ⊎ (suc place ≡ n)
+    (place : ℕ) (r : Reference) → slice_get rs place ≡ Some r → r.role ≡ role.Target → Any (λ s. target_of s ≡ place + 1) body
+    ⊎ (suc place ≡ n)
 
 any_later : {A : Type 0} (P : A → Type 0) (xs ys : List A) → Any P xs → Any P (xs ++ ys)
 any_later P xs ys (k, x, within, is, p) = (
@@ -320,23 +360,28 @@ any_later P xs ys (k, x, within, is, p) = (
   p,
 )
 
-pending_other : (rs : List Reference) (body : List CheckedBody) (n : ℕ) (x : Reference) → x.role ≢ role.Target → Pending rs body n → Pending (rs ++ x ∷ []) body n
+pending_other : (rs : List Reference) (body : List CheckedBody) (n : ℕ) (x : Reference) → x.role ≢ role.Target → Pending rs body n
+    → Pending (rs ++ x ∷ []) body n
 pending_other rs body n x other p =
-    slice_get-push (λ (place : ℕ) (r : Reference). r.role ≡ role.Target → Any (λ s. target_of s ≡ place + 1) body ⊎ (suc place ≡ n)) rs x p (λ is. absurd (other is))
+    slice_get-push (λ (place : ℕ) (r : Reference). r.role ≡ role.Target → Any (λ s. target_of s ≡ place + 1) body ⊎ (suc place ≡ n)) rs x
+    p (λ is. absurd (other is))
 
-pending_target : (rs : List Reference) (body : List CheckedBody) (n : ℕ) (x : Reference) → n ≡ suc (length rs) → AreTargets rs body → Pending (rs ++ x ∷ []) body n
+pending_target : (rs : List Reference) (body : List CheckedBody) (n : ℕ) (x : Reference) → n ≡ suc (length rs) → AreTargets rs body
+    → Pending (rs ++ x ∷ []) body n
 pending_target rs body n x e p =
     slice_get-push (λ (place : ℕ) (r : Reference). r.role ≡ role.Target → Any (λ s. target_of s ≡ place + 1) body ⊎ (suc place ≡ n)) rs x
     (λ place r there is. inl (p place r there is)) (λ is. inr (sym e))
 
-settled : (rs : List Reference) (body : List CheckedBody) (n : ℕ) (s : CheckedBody) → target_of s ≡ n → Pending rs body n → AreTargets rs (body ++ s ∷ [])
+settled : (rs : List Reference) (body : List CheckedBody) (n : ℕ) (s : CheckedBody) → target_of s ≡ n → Pending rs body n
+    → AreTargets rs (body ++ s ∷ [])
 settled rs body n s e p = λ place r there is. by_case place (p place r there is)
   where
     by_case : (place : ℕ) → Any (λ t. target_of t ≡ place + 1) body ⊎ (suc place ≡ n) → Any (λ t. target_of t ≡ place + 1) (body ++ s ∷ [])
     by_case place (inl any) = any_later (λ t. target_of t ≡ place + 1) body (s ∷ []) any
     by_case place (inr same) = Any-push (λ t. target_of t ≡ place + 1) body s (e ∙ sym same ∙ sym (add-one place))
 
-index_other : (h : Head) (a : Around) (d : Draft) (s : Subscript) (body : List CheckedBody) (n : ℕ) → Pending d.references body n → Pending (after_index h a d s).references body n
+index_other : (h : Head) (a : Around) (d : Draft) (s : Subscript) (body : List CheckedBody) (n : ℕ) → Pending d.references body n
+    → Pending (after_index h a d s).references body n
 index_other h a d (Plain add) body n p = p
 index_other h a d (Scalar s) body n p = p
 index_other h a d (Through index_array at inner_add add) body n p = by_test (is_crowded d)
@@ -344,7 +389,10 @@ index_other h a d (Through index_array at inner_add add) body n p = by_test (is_
     not_target : role.Index ≢ role.Target
     not_target e = cc
 
-    by_test : (b : Bool) → Pending (if b then d else record d { references = d.references ++ index_reference h a index_array inner_add ∷ [] }).references body n
+    by_test : (b : Bool) → Pending (if b then d else record d {
+      references = d.references ++ index_reference h a index_array inner_add
+          ∷ [];
+    }).references body n
     by_test true = p
     by_test false = pending_other d.references body n (index_reference h a index_array inner_add) not_target p
 
@@ -359,7 +407,8 @@ read_other h a d e body n none p =
     not_target e' = cc
 
 module _ (h : Head) (a : Around) (index : List ℕ) (body : List CheckedBody) (n : ℕ) where
-  expr_other : (e : Expr) (d : Draft) → expr_faults h a index d e ≡ [] → Pending d.references body n → Pending (after_expr h a index d e).references body n
+  expr_other : (e : Expr) (d : Draft) → expr_faults h a index d e ≡ [] → Pending d.references body n
+      → Pending (after_expr h a index d e).references body n
   expr_other (Number value) d none p = p
   expr_other (Named name at) d none p = by_test (name_eq name index)
     where
@@ -396,13 +445,15 @@ module _ {X : Type 0} (f : Draft → X) (references : (d : Draft) (rs : List Ref
     stamp_same d s (Some array) =
         let facts = array_at h.tables.arrays array in
         let marks = subscript_marks h a s in
-        one_same (is_some (stamp_in d.stamped facts.decomposition facts.offset marks)) d d (with_stamp d facts.decomposition facts.offset marks) refl
+        one_same (is_some (stamp_in d.stamped facts.decomposition facts.offset marks)) d d
+        (with_stamp d facts.decomposition facts.offset marks) refl
         (one_same (is_worn d.used facts.decomposition) d d _ refl (stamps d _ _))
 
     own_same : (role : Role) (d : Draft) (e : Element) → f (after_own h a role d e) ≡ f d
     own_same role d e =
         let x = after_own_stamp h a d e.subscript (array_of h a e.name) in
-        one_same (is_crowded d) d d (with_reference x (own_reference h a d role e)) refl (with_same x (own_reference h a d role e) ∙ stamp_same d e.subscript (array_of h a e.name))
+        one_same (is_crowded d) d d (with_reference x (own_reference h a d role e)) refl (with_same x (own_reference h a d role e)
+        ∙ stamp_same d e.subscript (array_of h a e.name))
 
     element_same : (role : Role) (d : Draft) (e : Element) → f (after_element h a role d e) ≡ f d
     element_same role d e = own_same role (after_index h a d e.subscript) e ∙ index_same d e.subscript
@@ -436,9 +487,11 @@ pub record IsSound (h : Head) (a : Around) (loop : Loop) (start : List ℕ) (d :
   pub alike : AllPairs Alike d.targets
   pub written : AreTargets d.references d.body
 
-module _ (h : Head) (a : Around) (loop : Loop) (start : List ℕ) (known : (name : List ℕ) (k : ℕ) → array_of h a name ≡ Some k → k < length h.tables.arrays)
+module _ (h : Head) (a : Around) (loop : Loop) (start : List ℕ) (known : (name : List ℕ) (k : ℕ) → array_of h a name ≡ Some k
+    → k < length h.tables.arrays)
     (placed : (k : ℕ) → k < length h.tables.arrays → decomposition_of h.tables.arrays k < length start) where
-  expr_referred : (e : Expr) (d : Draft) → expr_faults h a loop.index d e ≡ [] → AreReferred h.tables.arrays start d → AreReferred h.tables.arrays start (after_expr h a loop.index d e)
+  expr_referred : (e : Expr) (d : Draft) → expr_faults h a loop.index d e ≡ [] → AreReferred h.tables.arrays start d
+      → AreReferred h.tables.arrays start (after_expr h a loop.index d e)
   expr_referred (Number value) d none g = g
   expr_referred (Named name at) d none g = by_test (name_eq name loop.index)
     where
@@ -456,7 +509,8 @@ module _ (h : Head) (a : Around) (loop : Loop) (start : List ℕ) (known : (name
       (expr_referred left d (left_empty (expr_faults h a loop.index d left) (expr_faults h a loop.index middle right) none) g)
 
   -- the draft with one more target, and the statement behind it
-  module _ (operator : Option Combine) (target : Element) (value : Expr) (d : Draft) (none : written_faults h a loop.index operator target value d ≡ []) (g : IsSound h a loop start d) where
+  module _ (operator : Option Combine) (target : Element) (value : Expr) (d : Draft)
+      (none : written_faults h a loop.index operator target value d ≡ []) (g : IsSound h a loop start d) where
     abbrev one : Target
     one = record { name = target.name; operator = operator }
 
@@ -496,13 +550,17 @@ module _ (h : Head) (a : Around) (loop : Loop) (start : List ℕ) (known : (name
     room_before = by_test (is_crowded d) refl
       where
         full : is_crowded d ≡ true → is_crowded (after_index h a aimed target.subscript) ≡ true
-        full e = stays_full aimed target.subscript (ap (λ (rs : List Reference). nat_le 64 (length rs)) (after_target-references d target.name operator) ∙ e)
+        full e = stays_full aimed target.subscript (ap (λ (rs : List Reference). nat_le 64 (length rs))
+            (after_target-references d target.name operator) ∙ e)
           where
             stays_full : (x : Draft) (s : Subscript) → is_crowded x ≡ true → is_crowded (after_index h a x s) ≡ true
             stays_full x (Plain add) f = f
             stays_full x (Scalar s) f = f
             stays_full x (Through index_array at inner_add add) f =
-                ap (λ b. is_crowded (if b then x else record x { references = x.references ++ index_reference h a index_array inner_add ∷ [] })) f ∙ f
+                ap (λ b. is_crowded (if b then x else record x {
+                  references = x.references ++ index_reference h a index_array inner_add
+                      ∷ [];
+                })) f ∙ f
 
         by_test : (b : Bool) → is_crowded d ≡ b → is_crowded d ≡ false
         by_test true e = absurd (true_not_false (is_crowded (after_index h a aimed target.subscript)) (full e) room)
@@ -531,7 +589,8 @@ module _ (h : Head) (a : Around) (loop : Loop) (start : List ℕ) (known : (name
     body_is = expr_body h a loop.index value behind ∙ element_body h a role.Target aimed target ∙ ap (λ (x : Draft). x.body) aimed_is
 
     targets_is : valued.targets ≡ d.targets ++ one ∷ []
-    targets_is = expr_targets h a loop.index value behind ∙ element_targets h a role.Target aimed target ∙ ap (λ (x : Draft). x.targets) aimed_is
+    targets_is = expr_targets h a loop.index value behind ∙ element_targets h a role.Target aimed target
+        ∙ ap (λ (x : Draft). x.targets) aimed_is
 
     abbrev place : ℕ
     place = length (after_index h a aimed target.subscript).references
@@ -551,9 +610,13 @@ module _ (h : Head) (a : Around) (loop : Loop) (start : List ℕ) (known : (name
           (role_at valued.references role.Target number place own number_is own_stays refl);
       plain = λ is.
           some_and-is (slice_get valued.references (target_of made - 1)) own (λ (r : Reference). IsPlain r.subscript)
-          (ap (slice_get valued.references) (place_behind (target_of made) place (target_is operator number (resolved_expr h a loop.index behind value) ∙ number_is)) ∙ own_stays)
-          (plain_resolved h a target.subscript (plain_known operator target (left_empty (plain_faults operator target) _ none) (sym (operator_is operator number (resolved_expr h a loop.index behind value)) ∙ is)));
-      value = subst (IsExpr valued.references (length valued.terms)) (sym (expr_is operator number (resolved_expr h a loop.index behind value))) (value_is h a loop.index value behind no_value);
+          (ap (slice_get valued.references)
+          (place_behind (target_of made) place (target_is operator number (resolved_expr h a loop.index behind value) ∙ number_is))
+          ∙ own_stays)
+          (plain_resolved h a target.subscript (plain_known operator target (left_empty (plain_faults operator target) _ none)
+          (sym (operator_is operator number (resolved_expr h a loop.index behind value)) ∙ is)));
+      value = subst (IsExpr valued.references (length valued.terms))
+          (sym (expr_is operator number (resolved_expr h a loop.index behind value))) (value_is h a loop.index value behind no_value);
     }
 
     target_made : IsTarget h a valued.references one made
@@ -577,7 +640,8 @@ module _ (h : Head) (a : Around) (loop : Loop) (start : List ℕ) (known : (name
         let x = after_index h a aimed target.subscript in
         subst (λ (l : List Reference). Pending l d.body number) (sym (own_added h a role.Target x target room))
         (pending_target x.references d.body number own number_is
-        (settled_index aimed target.subscript (subst (λ (l : List Reference). AreTargets l d.body) (sym (after_target-references d target.name operator)) g.written)))
+        (settled_index aimed target.subscript (subst (λ (l : List Reference). AreTargets l d.body)
+        (sym (after_target-references d target.name operator)) g.written)))
       where
         settled_index : (x : Draft) (s : Subscript) → AreTargets x.references d.body → AreTargets (after_index h a x s).references d.body
         settled_index x (Plain add) p = p
@@ -587,24 +651,35 @@ module _ (h : Head) (a : Around) (loop : Loop) (start : List ℕ) (known : (name
             other : role.Index ≢ role.Target
             other e = cc
 
-            by_test : (b : Bool) → AreTargets (if b then x else record x { references = x.references ++ index_reference h a index_array inner_add ∷ [] }).references d.body
+            by_test : (b : Bool) → AreTargets
+                (if b then x else record x { references = x.references ++ index_reference h a index_array inner_add ∷ [] }).references
+                d.body
             by_test true = p
-            by_test false = slice_get-push (λ (k : ℕ) (r : Reference). r.role ≡ role.Target → Any (λ s. target_of s ≡ k + 1) d.body) x.references (index_reference h a index_array inner_add) p (λ is. absurd (other is))
+            by_test false = slice_get-push (λ (k : ℕ) (r : Reference). r.role ≡ role.Target → Any (λ s. target_of s ≡ k + 1) d.body)
+                x.references (index_reference h a index_array inner_add) p (λ is. absurd (other is))
 
     written_sound : IsSound h a loop start (after_written h a loop.index operator target value d)
     written_sound =
-        let referred = expr_referred value behind no_value (element_referred h a start known placed role.Target not_index aimed target no_element aimed_referred) in
+        let referred = expr_referred value behind no_value (element_referred h a start known placed role.Target not_index aimed target
+        no_element aimed_referred) in
         record {
           referred = record { used = referred.used; more = referred.more; stamped = referred.stamped; references = referred.references };
-          body = subst (λ (l : List CheckedBody). All (IsStatement (site_of h a loop (with_body valued made))) (l ++ made ∷ [])) (sym body_is)
+          body = subst (λ (l : List CheckedBody). All (IsStatement (site_of h a loop (with_body valued made))) (l ++ made ∷ []))
+              (sym body_is)
               (All-push (IsStatement (site_of h a loop (with_body valued made))) d.body made
               (All-weaker (IsStatement (site_of h a loop d)) (IsStatement (site_of h a loop (with_body valued made)))
-              (λ s is. let l = statement_later h a loop d valued all_grows s is in record { target = l.target; plain = l.plain; value = l.value }) d.body g.body)
+              (λ s is. let l = statement_later h a loop d valued all_grows s is in record {
+                target = l.target;
+                plain = l.plain;
+                value = l.value;
+              }) d.body g.body)
               (record { target = made_is.target; plain = made_is.plain; value = made_is.value }));
           targets = subst (λ (l : List Target). AllZip (IsTarget h a valued.references) l (valued.body ++ made ∷ [])) (sym targets_is)
-              (subst (λ (l : List CheckedBody). AllZip (IsTarget h a valued.references) (d.targets ++ one ∷ []) (l ++ made ∷ [])) (sym body_is)
+              (subst (λ (l : List CheckedBody). AllZip (IsTarget h a valued.references) (d.targets ++ one ∷ []) (l ++ made ∷ []))
+              (sym body_is)
               (zip_push (IsTarget h a valued.references) d.targets d.body one made
-              (zip_weaker (IsTarget h a d.references) (IsTarget h a valued.references) (target_later h a d valued all_grows) d.targets d.body g.targets) target_made));
+              (zip_weaker (IsTarget h a d.references) (IsTarget h a valued.references) (target_later h a d valued all_grows) d.targets
+              d.body g.targets) target_made));
           alike = subst (λ (l : List Target). AllPairs Alike l) (sym targets_is)
               (all_pairs_push Alike d.targets one g.alike (alike_new d.targets target.name operator target.at no_clash));
           written = subst (λ (l : List CheckedBody). AreTargets valued.references (l ++ made ∷ [])) (sym body_is)
@@ -612,6 +687,7 @@ module _ (h : Head) (a : Around) (loop : Loop) (start : List ℕ) (known : (name
               (expr_other h a loop.index d.body number value behind no_value target_pending));
         }
 
-  pub body_sound : (d : Draft) (s : BodyStatement) → IsSound h a loop start d → body_faults h a loop.index d s ≡ [] → IsSound h a loop start (after_body h a loop.index d s)
+  pub body_sound : (d : Draft) (s : BodyStatement) → IsSound h a loop start d → body_faults h a loop.index d s ≡ []
+      → IsSound h a loop start (after_body h a loop.index d s)
   body_sound d (statement.Assign target value) g none = written_sound None target value d none g
   body_sound d (statement.Reduce operator target value) g none = written_sound (Some operator) target value d none g

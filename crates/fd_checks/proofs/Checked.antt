@@ -29,7 +29,8 @@ in_program h w (checked.Forall site) is = is
 
 program_checked : (h : Head) (w : Walk) → IsSoundHead h → IsSoundWalk h w → IsChecked (resolved_in h w)
 program_checked h w g v =
-    let count : length h.tables.arrays ≡ length h.scope.arrays = zip_length (IsFactsOf h.tables.layouts) h.tables.arrays h.scope.arrays g.tables.arrays in
+    let count : length h.tables.arrays ≡ length h.scope.arrays = zip_length (IsFactsOf h.tables.layouts) h.tables.arrays h.scope.arrays
+    g.tables.arrays in
     let few : length h.scope.arrays ≤ 64 = g.scope.few_arrays in
     let few_layouts : length h.scope.layouts ≤ 64 = g.scope.few_layouts in
     let all_layouts : length h.tables.layouts ≤ length h.scope.layouts + length h.scope.arrays = g.tables.count in
@@ -39,12 +40,14 @@ program_checked h w g v =
       few_sites = v.few;
       layouts = g.tables.layouts;
       arrays = all_aligned h g;
-      reads = All-weaker (IsNumber (length h.scope.arrays)) (IsRead h.tables.arrays) (λ (z : ℤ) is. record { least = is.0; within = subst (λ n. natural z < n) (sym count) is.1 }) h.scope.reads g.scope.reads;
+      reads = All-weaker (IsNumber (length h.scope.arrays)) (IsRead h.tables.arrays)
+          (λ (z : ℤ) is. record { least = is.0; within = subst (λ n. natural z < n) (sym count) is.1 }) h.scope.reads g.scope.reads;
       reads_apart = g.scope.reads_apart;
       outputs = subst (λ n. All (λ (o : OutputName). o.array < n) h.scope.outputs) (sym count) g.scope.outputs;
       sites = v.sites;
       stamps = v.stamps;
-      statements = All-weaker (IsStatementIn h (length w.sites)) (IsStatementOf (resolved_in h w)) (in_program h w) w.statements v.statements;
+      statements = All-weaker (IsStatementIn h (length w.sites)) (IsStatementOf (resolved_in h w)) (in_program h w) w.statements
+          v.statements;
     }
 
 accepted_checked : (p : Program) → AreFilled p → all_faults p ≡ [] → IsChecked (resolved_program p)

@@ -1,5 +1,6 @@
 -- What is declared, declaration by declaration, where nothing in the head is at fault.
-use Rattle.std.proofs.Common.{◌≡◌, ◌≢◌, refl, ℕ, zero, suc, ◌≤◌, ◌<◌, ◌+◌, ◌-◌, ℤ, pos, ◌+ℤ◌, ◌≤ℤ◌, Bool, true, false, if◌then◌else◌, arith, List, [], ◌∷◌, ◌++◌, length, length-append, get_or, Option, Some, None, ap, sym, ◌∙◌, subst}
+use Rattle.std.proofs.Common.{◌≡◌, ◌≢◌, refl, ℕ, zero, suc, ◌≤◌, ◌<◌, ◌+◌, ◌-◌, ℤ, pos, ◌+ℤ◌, ◌≤ℤ◌, Bool, true, false, if◌then◌else◌, arith}
+use Rattle.std.proofs.Common.{List, [], ◌∷◌, ◌++◌, length, length-append, get_or, Option, Some, None, ap, sym, ◌∙◌, subst}
 use Rattle.std.specs.Prelude.{All, AllPairs, fold, not, ◌||◌, is_some, nat_le, int_lt, slice_get, slice_set, IsSomeAnd}
 use Rattle.std.specs.List.{list_any}
 use Rattle.std.specs.Ordering.{int_eq}
@@ -29,8 +30,14 @@ use Rattle.fd_scope.specs.declared.scope.Scope.{Scope}
 use Rattle.fd_scope.specs.Faults.{fault_if, along}
 use Rattle.fd_scope.specs.Names.{found, is_earlier, declared_before, known, as_constant, as_array, as_decomposition}
 use Rattle.fd_scope.specs.Scalars.{value_of, scalar_faults, offset_value, offset_faults}
-use Rattle.fd_scope.specs.Scope.{nothing, is_declared, twice_faults, bad_extent, extent_of, extent_faults, is_full, parameter_entered, array_entered, layout_entered, after_parameter, parameter_faults, sized_faults, after_array, array_faults, after_layout, layout_faults, array_numbered, entry_extent, layout_extent, is_outside, aligned_faults, listed_faults, entry_aligned, arrays_aligned, after_aligned, alignment_of, target_faults, is_read, is_output, again_faults, number_of, read_faults, output_faults, reads_with, outputs_with, after_read, after_output, after_declaration, declaration_faults, declared, declared_faults}
-use Rattle.fd_checks.proofs.Accepted.{left_empty, right_empty, test_false, not_false, left_false, right_false, true_not_false, is_some-some, some_and, some_and-is, slice_get-front, slice_get-last, kept_along, anything}
+use Rattle.fd_scope.specs.Scope.{nothing, is_declared, twice_faults, bad_extent, extent_of, extent_faults, is_full, parameter_entered}
+use Rattle.fd_scope.specs.Scope.{array_entered, layout_entered, after_parameter, parameter_faults, sized_faults, after_array, array_faults}
+use Rattle.fd_scope.specs.Scope.{after_layout, layout_faults, array_numbered, entry_extent, layout_extent, is_outside, aligned_faults}
+use Rattle.fd_scope.specs.Scope.{listed_faults, entry_aligned, arrays_aligned, after_aligned, alignment_of, target_faults, is_read}
+use Rattle.fd_scope.specs.Scope.{is_output, again_faults, number_of, read_faults, output_faults, reads_with, outputs_with, after_read}
+use Rattle.fd_scope.specs.Scope.{after_output, after_declaration, declaration_faults, declared, declared_faults}
+use Rattle.fd_checks.proofs.Accepted.{left_empty, right_empty, test_false, not_false, left_false, right_false, true_not_false, is_some-some}
+use Rattle.fd_checks.proofs.Accepted.{some_and, some_and-is, slice_get-front, slice_get-last, kept_along, anything}
 use Rattle.fd_checks.proofs.Heads.{Each, each_push, each_weaker, IsSmall, IsValued, IsConstant, scalar_valued, offset_valued, extent_valued}
 
 -- ---- what a name means, in a scope
@@ -84,7 +91,8 @@ pub constant_in : (arrays : List ArrayEntry) (layouts : List LayoutEntry) (names
     → Each (λ q (k : Known). IsMeaning arrays layouts q k.meaning) names → (q : List ℕ) → IsConstant (as_constant (known names here q))
 constant_in arrays layouts names here each q = by_found (found names q) refl
   where
-    by_meaning : (m : Meaning) (at : SourcePlace) → IsMeaning arrays layouts q m → IsConstant (as_constant (Some (record { at = at; meaning = m })))
+    by_meaning : (m : Meaning) (at : SourcePlace) → IsMeaning arrays layouts q m
+        → IsConstant (as_constant (Some (record { at = at; meaning = m })))
     by_meaning (Constant value) at is = is
     by_meaning (Array number) at is = tt
     by_meaning (Decomposition number) at is = tt
@@ -97,22 +105,27 @@ constant_in arrays layouts names here each q = by_found (found names q) refl
     by_found None e = tt
     by_found (Some k) e = by_test (is_earlier k.at here) k (each q k e)
 
-pub array_in : (s : Scope) → IsSoundScope s → (q : List ℕ) (n : ℕ) → as_array (found s.names q) ≡ Some n → IsSomeAnd (slice_get s.arrays n) (λ (e : ArrayEntry). e.name ≡ q)
+pub array_in : (s : Scope) → IsSoundScope s → (q : List ℕ) (n : ℕ) → as_array (found s.names q) ≡ Some n
+    → IsSomeAnd (slice_get s.arrays n) (λ (e : ArrayEntry). e.name ≡ q)
 array_in s g q n e = by_found (found s.names q) refl e
   where
-    by_meaning : (m : Meaning) (at : SourcePlace) → IsMeaning s.arrays s.layouts q m → as_array (Some (record { at = at; meaning = m })) ≡ Some n → IsSomeAnd (slice_get s.arrays n) (λ (e : ArrayEntry). e.name ≡ q)
+    by_meaning : (m : Meaning) (at : SourcePlace) → IsMeaning s.arrays s.layouts q m → as_array (Some (record { at = at; meaning = m }))
+        ≡ Some n → IsSomeAnd (slice_get s.arrays n) (λ (e : ArrayEntry). e.name ≡ q)
     by_meaning (Constant value) at is f = cc
-    by_meaning (Array number) at is f = let same : number ≡ n = cc in subst (λ k. IsSomeAnd (slice_get s.arrays k) (λ (e : ArrayEntry). e.name ≡ q)) same is
+    by_meaning (Array number) at is f = let same : number ≡ n = cc in
+        subst (λ k. IsSomeAnd (slice_get s.arrays k) (λ (e : ArrayEntry). e.name ≡ q)) same is
     by_meaning (Decomposition number) at is f = cc
 
-    by_found : (o : Option Known) → found s.names q ≡ o → as_array o ≡ Some n → IsSomeAnd (slice_get s.arrays n) (λ (e : ArrayEntry). e.name ≡ q)
+    by_found : (o : Option Known) → found s.names q ≡ o → as_array o ≡ Some n
+        → IsSomeAnd (slice_get s.arrays n) (λ (e : ArrayEntry). e.name ≡ q)
     by_found None is f = cc
     by_found (Some k) is f = by_meaning k.meaning k.at (g.names q k is) f
 
 pub layout_in : (s : Scope) → IsSoundScope s → (q : List ℕ) (n : ℕ) → as_decomposition (found s.names q) ≡ Some n → n < length s.layouts
 layout_in s g q n e = by_found (found s.names q) refl e
   where
-    by_meaning : (m : Meaning) (at : SourcePlace) → IsMeaning s.arrays s.layouts q m → as_decomposition (Some (record { at = at; meaning = m })) ≡ Some n → n < length s.layouts
+    by_meaning : (m : Meaning) (at : SourcePlace) → IsMeaning s.arrays s.layouts q m
+        → as_decomposition (Some (record { at = at; meaning = m })) ≡ Some n → n < length s.layouts
     by_meaning (Constant value) at is f = cc
     by_meaning (Array number) at is f = cc
     by_meaning (Decomposition number) at is f = let same : number ≡ n = cc in subst (λ k. k < length s.layouts) same is
@@ -130,24 +143,30 @@ within_arrays arrays n P is = by_get (slice_get arrays n) refl is
 
 -- ---- one thing more
 
-meaning_more_arrays : (arrays more : List ArrayEntry) (layouts : List LayoutEntry) (q : List ℕ) (m : Meaning) → IsMeaning arrays layouts q m → IsMeaning (arrays ++ more) layouts q m
+meaning_more_arrays : (arrays more : List ArrayEntry) (layouts : List LayoutEntry) (q : List ℕ) (m : Meaning)
+    → IsMeaning arrays layouts q m → IsMeaning (arrays ++ more) layouts q m
 meaning_more_arrays arrays more layouts q (Constant value) is = is
-meaning_more_arrays arrays more layouts q (Array number) is = some_and (slice_get arrays number) (slice_get (arrays ++ more) number) (λ (e : ArrayEntry). e.name ≡ q) (slice_get-front arrays more number) is
+meaning_more_arrays arrays more layouts q (Array number) is = some_and (slice_get arrays number) (slice_get (arrays ++ more) number)
+    (λ (e : ArrayEntry). e.name ≡ q) (slice_get-front arrays more number) is
 meaning_more_arrays arrays more layouts q (Decomposition number) is = is
 
-meaning_more_layouts : (arrays : List ArrayEntry) (layouts more : List LayoutEntry) (q : List ℕ) (m : Meaning) → IsMeaning arrays layouts q m → IsMeaning arrays (layouts ++ more) q m
+meaning_more_layouts : (arrays : List ArrayEntry) (layouts more : List LayoutEntry) (q : List ℕ) (m : Meaning)
+    → IsMeaning arrays layouts q m → IsMeaning arrays (layouts ++ more) q m
 meaning_more_layouts arrays layouts more q (Constant value) is = is
 meaning_more_layouts arrays layouts more q (Array number) is = is
 meaning_more_layouts arrays layouts more q (Decomposition number) is = omega (arith, length-append layouts more)
 
-entry_kept : (layouts more : List LayoutEntry) (d w : ℕ) → layout_extent layouts (Some d) ≡ Some w → layout_extent (layouts ++ more) (Some d) ≡ Some w
+entry_kept : (layouts more : List LayoutEntry) (d w : ℕ) → layout_extent layouts (Some d) ≡ Some w
+    → layout_extent (layouts ++ more) (Some d) ≡ Some w
 entry_kept layouts more d w e = by_get (slice_get layouts d) refl e
   where
-    by_get : (o : Option LayoutEntry) → slice_get layouts d ≡ o → entry_extent o ≡ Some w → layout_extent (layouts ++ more) (Some d) ≡ Some w
+    by_get : (o : Option LayoutEntry) → slice_get layouts d ≡ o → entry_extent o ≡ Some w → layout_extent (layouts ++ more) (Some d)
+        ≡ Some w
     by_get None is f = cc
     by_get (Some x) is f = ap entry_extent (slice_get-front layouts more d x is) ∙ f
 
-stands_more : (layouts more : List LayoutEntry) (extent : Option ℕ) (o : Option Alignment) → Stands layouts extent o → Stands (layouts ++ more) extent o
+stands_more : (layouts more : List LayoutEntry) (extent : Option ℕ) (o : Option Alignment) → Stands layouts extent o
+    → Stands (layouts ++ more) extent o
 stands_more layouts more extent None is = tt
 stands_more layouts more extent (Some to) is = record {
   decomposition = is.decomposition;
@@ -177,11 +196,13 @@ no_shorter xs x = omega (arith, length-append xs (x ∷ []))
 
 -- ---- PARAMETER
 
-parameter_kept : (loops : List (List ℕ)) (s : Scope) (p : Parameter) → IsSoundScope s → Unit {0} → parameter_faults loops s p ≡ [] → IsSoundScope (after_parameter s p)
+parameter_kept : (loops : List (List ℕ)) (s : Scope) (p : Parameter) → IsSoundScope s → Unit {0} → parameter_faults loops s p ≡ []
+    → IsSoundScope (after_parameter s p)
 parameter_kept loops s p g q none = by_test (is_declared s p.name)
   where
     value : IsValued (value_of s.names p.at p.value)
-    value = scalar_valued s.names p.at loops (constant_in s.arrays s.layouts s.names p.at g.names) p.value (right_empty (twice_faults s p.name p.at) (scalar_faults s.names p.at loops p.value) none)
+    value = scalar_valued s.names p.at loops (constant_in s.arrays s.layouts s.names p.at g.names) p.value
+        (right_empty (twice_faults s p.name p.at) (scalar_faults s.names p.at loops p.value) none)
 
     by_test : (b : Bool) → IsSoundScope (if b then s else parameter_entered s p)
     by_test true = g
@@ -198,14 +219,18 @@ parameter_kept loops s p g q none = by_test (is_declared s p.name)
 
 -- ---- INTEGER, DECOMPOSITION
 
-extent_there : (full : Bool) (loops : List (List ℕ)) (s : Scope) (z : SizedName) → IsSoundScope s → sized_faults full loops s z ≡ [] → IsSomeAnd (extent_of s z) IsExtent
+extent_there : (full : Bool) (loops : List (List ℕ)) (s : Scope) (z : SizedName) → IsSoundScope s → sized_faults full loops s z ≡ []
+    → IsSomeAnd (extent_of s z) IsExtent
 extent_there full loops s z g none =
-    let rest = right_empty (twice_faults s z.name z.at) (extent_faults s loops z) (right_empty (fault_if full z.at cause.TooManyNames) (twice_faults s z.name z.at ++ extent_faults s loops z) none) in
+    let rest = right_empty (twice_faults s z.name z.at) (extent_faults s loops z) (right_empty (fault_if full z.at cause.TooManyNames)
+    (twice_faults s z.name z.at ++ extent_faults s loops z) none) in
     extent_valued z.extent_at (value_of s.names z.at z.extent)
-    (scalar_valued s.names z.at loops (constant_in s.arrays s.layouts s.names z.at g.names) z.extent (left_empty (scalar_faults s.names z.at loops z.extent) (bad_extent z.extent_at (value_of s.names z.at z.extent)) rest))
+    (scalar_valued s.names z.at loops (constant_in s.arrays s.layouts s.names z.at g.names) z.extent
+    (left_empty (scalar_faults s.names z.at loops z.extent) (bad_extent z.extent_at (value_of s.names z.at z.extent)) rest))
     (right_empty (scalar_faults s.names z.at loops z.extent) (bad_extent z.extent_at (value_of s.names z.at z.extent)) rest)
 
-array_kept : (loops : List (List ℕ)) (s : Scope) (z : SizedName) → IsSoundScope s → Unit {0} → array_faults loops s z ≡ [] → IsSoundScope (after_array s z)
+array_kept : (loops : List (List ℕ)) (s : Scope) (z : SizedName) → IsSoundScope s → Unit {0} → array_faults loops s z ≡ []
+    → IsSoundScope (after_array s z)
 array_kept loops s z g q none = by_test (is_full s.arrays || is_declared s z.name) refl
   where
     by_test : (b : Bool) → (is_full s.arrays || is_declared s z.name) ≡ b → IsSoundScope (if b then s else array_entered s z)
@@ -217,17 +242,25 @@ array_kept loops s z g q none = by_test (is_full s.arrays || is_declared s z.nam
           few_arrays = one_more s.arrays new (left_false (is_full s.arrays) (is_declared s z.name) e);
           few_layouts = g.few_layouts;
           names = each_push (λ q (k : Known). IsMeaning (s.arrays ++ new ∷ []) s.layouts q k.meaning) s.names z.name _
-              (each_weaker (λ q (k : Known). IsMeaning s.arrays s.layouts q k.meaning) (λ q (k : Known). IsMeaning (s.arrays ++ new ∷ []) s.layouts q k.meaning)
+              (each_weaker (λ q (k : Known). IsMeaning s.arrays s.layouts q k.meaning)
+              (λ q (k : Known). IsMeaning (s.arrays ++ new ∷ []) s.layouts q k.meaning)
               (λ q k is. meaning_more_arrays s.arrays (new ∷ []) s.layouts q k.meaning is) s.names g.names)
-              (some_and-is (slice_get (s.arrays ++ new ∷ []) (length s.arrays)) new (λ (x : ArrayEntry). x.name ≡ z.name) (slice_get-last s.arrays new) refl);
+              (some_and-is (slice_get (s.arrays ++ new ∷ []) (length s.arrays)) new (λ (x : ArrayEntry). x.name ≡ z.name)
+              (slice_get-last s.arrays new) refl);
           layouts = g.layouts;
-          arrays = All-push (IsEntry s.layouts) s.arrays new g.arrays (record { extent = extent_there (is_full s.arrays) loops s z g none; stands = tt });
-          reads = All-weaker (IsNumber (length s.arrays)) (IsNumber (length (s.arrays ++ new ∷ []))) (λ n is. number_more (length s.arrays) (length (s.arrays ++ new ∷ [])) n longer is) s.reads g.reads;
+          arrays = All-push (IsEntry s.layouts) s.arrays new g.arrays (record {
+            extent = extent_there (is_full s.arrays) loops s z g none;
+            stands = tt;
+          });
+          reads = All-weaker (IsNumber (length s.arrays)) (IsNumber (length (s.arrays ++ new ∷ [])))
+              (λ n is. number_more (length s.arrays) (length (s.arrays ++ new ∷ [])) n longer is) s.reads g.reads;
           reads_apart = g.reads_apart;
-          outputs = All-weaker (λ (o : OutputName). o.array < length s.arrays) (λ (o : OutputName). o.array < length (s.arrays ++ new ∷ [])) (λ o is. omega arith) s.outputs g.outputs;
+          outputs = All-weaker (λ (o : OutputName). o.array < length s.arrays) (λ (o : OutputName). o.array
+              < length (s.arrays ++ new ∷ [])) (λ o is. omega arith) s.outputs g.outputs;
         }
 
-layout_kept : (loops : List (List ℕ)) (s : Scope) (z : SizedName) → IsSoundScope s → Unit {0} → layout_faults loops s z ≡ [] → IsSoundScope (after_layout s z)
+layout_kept : (loops : List (List ℕ)) (s : Scope) (z : SizedName) → IsSoundScope s → Unit {0} → layout_faults loops s z ≡ []
+    → IsSoundScope (after_layout s z)
 layout_kept loops s z g q none = by_test (is_full s.layouts || is_declared s z.name) refl
   where
     by_test : (b : Bool) → (is_full s.layouts || is_declared s z.name) ≡ b → IsSoundScope (if b then s else layout_entered s z)
@@ -238,11 +271,14 @@ layout_kept loops s z g q none = by_test (is_full s.layouts || is_declared s z.n
           few_arrays = g.few_arrays;
           few_layouts = one_more s.layouts new (left_false (is_full s.layouts) (is_declared s z.name) e);
           names = each_push (λ q (k : Known). IsMeaning s.arrays (s.layouts ++ new ∷ []) q k.meaning) s.names z.name _
-              (each_weaker (λ q (k : Known). IsMeaning s.arrays s.layouts q k.meaning) (λ q (k : Known). IsMeaning s.arrays (s.layouts ++ new ∷ []) q k.meaning)
+              (each_weaker (λ q (k : Known). IsMeaning s.arrays s.layouts q k.meaning)
+              (λ q (k : Known). IsMeaning s.arrays (s.layouts ++ new ∷ []) q k.meaning)
               (λ q k is. meaning_more_layouts s.arrays s.layouts (new ∷ []) q k.meaning is) s.names g.names)
               (omega (arith, length-append s.layouts (new ∷ [])));
           layouts = All-push IsSized s.layouts new g.layouts (extent_there (is_full s.layouts) loops s z g none);
-          arrays = All-weaker (IsEntry s.layouts) (IsEntry (s.layouts ++ new ∷ [])) (λ e' is. record { extent = is.extent; stands = stands_more s.layouts (new ∷ []) e'.extent e'.aligned is.stands }) s.arrays g.arrays;
+          arrays = All-weaker (IsEntry s.layouts) (IsEntry (s.layouts ++ new ∷ []))
+              (λ e' is. record { extent = is.extent; stands = stands_more s.layouts (new ∷ []) e'.extent e'.aligned is.stands }) s.arrays
+              g.arrays;
           reads = g.reads;
           reads_apart = g.reads_apart;
           outputs = g.outputs;
@@ -256,14 +292,16 @@ set_length (y ∷ ys) zero x = refl
 set_length (y ∷ ys) (suc i) x = ap suc (set_length ys i x)
 
 named_set : (arrays : List ArrayEntry) (n : ℕ) (e new : ArrayEntry) → slice_get arrays n ≡ Some e → new.name ≡ e.name → (k : ℕ) (q : List ℕ)
-    → IsSomeAnd (slice_get arrays k) (λ (x : ArrayEntry). x.name ≡ q) → IsSomeAnd (slice_get (slice_set arrays n new) k) (λ (x : ArrayEntry). x.name ≡ q)
+    → IsSomeAnd (slice_get arrays k) (λ (x : ArrayEntry). x.name ≡ q) → IsSomeAnd (slice_get (slice_set arrays n new) k)
+    (λ (x : ArrayEntry). x.name ≡ q)
 named_set [] n e new there same k q is = is
 named_set (x ∷ xs) zero e new there same zero q is = let f : x ≡ e = cc in same ∙ sym (ap (λ (y : ArrayEntry). y.name) f) ∙ is
 named_set (x ∷ xs) zero e new there same (suc k) q is = is
 named_set (x ∷ xs) (suc n) e new there same zero q is = is
 named_set (x ∷ xs) (suc n) e new there same (suc k) q is = named_set xs n e new there same k q is
 
-meaning_set : (arrays : List ArrayEntry) (n : ℕ) (e new : ArrayEntry) → slice_get arrays n ≡ Some e → new.name ≡ e.name → (layouts : List LayoutEntry) (q : List ℕ) (m : Meaning)
+meaning_set : (arrays : List ArrayEntry) (n : ℕ) (e new : ArrayEntry) → slice_get arrays n ≡ Some e → new.name ≡ e.name
+    → (layouts : List LayoutEntry) (q : List ℕ) (m : Meaning)
     → IsMeaning arrays layouts q m → IsMeaning (slice_set arrays n new) layouts q m
 meaning_set arrays n e new there same layouts q (Constant value) is = is
 meaning_set arrays n e new there same layouts q (Array number) is = named_set arrays n e new there same number q is
@@ -287,12 +325,14 @@ some_extent : (o : Option ℕ) → IsSomeAnd o IsExtent → (n : ℕ) × (o ≡ 
 some_extent None is = absurd is
 some_extent (Some n) is = (n, refl)
 
-pub whole_there : (layouts : List LayoutEntry) (d : ℕ) → d < length layouts → All IsSized layouts → (w : ℕ) × (layout_extent layouts (Some d) ≡ Some w)
+pub whole_there : (layouts : List LayoutEntry) (d : ℕ) → d < length layouts → All IsSized layouts → (w : ℕ)
+    × (layout_extent layouts (Some d) ≡ Some w)
 whole_there [] d within all = absurd (omega arith)
 whole_there (x ∷ xs) zero within all = some_extent x.extent (all 0 x (omega arith))
 whole_there (x ∷ xs) (suc d) within all = whole_there xs d (omega arith) (λ k y h. all (suc k) y (omega arith))
 
-standing : (layouts : List LayoutEntry) (to : Alignment) (extent : Option ℕ) → IsTo layouts to → All IsSized layouts → IsSomeAnd extent IsExtent
+standing : (layouts : List LayoutEntry) (to : Alignment) (extent : Option ℕ) → IsTo layouts to → All IsSized layouts
+    → IsSomeAnd extent IsExtent
     → is_outside to.offset extent (layout_extent layouts to.decomposition) ≡ false → IsStanding layouts extent to
 standing layouts to extent is all sized out = from (some_extent extent sized) (whole_there layouts is.decomposition is.within all)
   where
@@ -319,11 +359,13 @@ pub record IsAimed (to : Alignment) (s : Scope) : Type 0 where
   pub sound : IsSoundScope s
   pub aim : IsTo s.layouts to
 
-aligned_kept : (to : Alignment) (s : Scope) (l : Listed) → IsAimed to s → Unit {0} → listed_faults to s l ≡ [] → IsAimed to (after_aligned to s l)
+aligned_kept : (to : Alignment) (s : Scope) (l : Listed) → IsAimed to s → Unit {0} → listed_faults to s l ≡ []
+    → IsAimed to (after_aligned to s l)
 aligned_kept to s l g q none = by_number (as_array (found s.names l.name)) none
   where
     by_aligned : (n : ℕ) (e : ArrayEntry) → slice_get s.arrays n ≡ Some e → IsEntry s.layouts e → (b : Bool)
-        → (if b then fault_if true l.at (cause.Twice l.name) else fault_if (is_outside to.offset e.extent (layout_extent s.layouts to.decomposition)) l.at cause.AlignOutside) ≡ []
+        → (if b then fault_if true l.at (cause.Twice l.name)
+        else fault_if (is_outside to.offset e.extent (layout_extent s.layouts to.decomposition)) l.at cause.AlignOutside) ≡ []
         → IsAimed to (record s { arrays = if b then s.arrays else slice_set s.arrays n (record e { aligned = Some to }) })
     by_aligned n e there entry true f = cc
     by_aligned n e there entry false f =
@@ -333,11 +375,16 @@ aligned_kept to s l g q none = by_number (as_array (found s.names l.name)) none
           sound = record {
             few_arrays = subst (λ k. k ≤ 64) (sym same) g.sound.few_arrays;
             few_layouts = g.sound.few_layouts;
-            names = each_weaker (λ q' (k : Known). IsMeaning s.arrays s.layouts q' k.meaning) (λ q' (k : Known). IsMeaning (slice_set s.arrays n new) s.layouts q' k.meaning)
+            names = each_weaker (λ q' (k : Known). IsMeaning s.arrays s.layouts q' k.meaning)
+                (λ q' (k : Known). IsMeaning (slice_set s.arrays n new) s.layouts q' k.meaning)
                 (λ q' k is. meaning_set s.arrays n e new there refl s.layouts q' k.meaning is) s.names g.sound.names;
             layouts = g.sound.layouts;
             arrays = All-set (IsEntry s.layouts) s.arrays n new
-                (record { extent = entry.extent; stands = standing s.layouts to e.extent g.aim g.sound.layouts entry.extent (test_false (is_outside to.offset e.extent (layout_extent s.layouts to.decomposition)) l.at cause.AlignOutside f) })
+                (record {
+                  extent = entry.extent;
+                  stands = standing s.layouts to e.extent g.aim g.sound.layouts entry.extent
+                      (test_false (is_outside to.offset e.extent (layout_extent s.layouts to.decomposition)) l.at cause.AlignOutside f);
+                })
                 g.sound.arrays;
             reads = subst (λ k. All (IsNumber k) s.reads) (sym same) g.sound.reads;
             reads_apart = g.sound.reads_apart;
@@ -346,7 +393,8 @@ aligned_kept to s l g q none = by_number (as_array (found s.names l.name)) none
           aim = g.aim;
         }
 
-    by_entry : (n : ℕ) (o : Option ArrayEntry) → slice_get s.arrays n ≡ o → aligned_faults to (layout_extent s.layouts to.decomposition) o l.name l.at ≡ []
+    by_entry : (n : ℕ) (o : Option ArrayEntry) → slice_get s.arrays n ≡ o → aligned_faults to (layout_extent s.layouts to.decomposition) o
+        l.name l.at ≡ []
         → IsAimed to (record s { arrays = entry_aligned to s.arrays n o })
     by_entry n None there f = cc
     by_entry n (Some e) there f =
@@ -354,7 +402,8 @@ aligned_kept to s l g q none = by_number (as_array (found s.names l.name)) none
         (subst (IsEntry s.layouts) (get_or_from_slice_get s.arrays n e e there) (g.sound.arrays n e (slice_get_within s.arrays n e there)))
         (is_some e.aligned) f
 
-    by_number : (o : Option ℕ) → aligned_faults to (layout_extent s.layouts to.decomposition) (array_numbered s.arrays o) l.name l.at ≡ [] → IsAimed to (record s { arrays = arrays_aligned to s.arrays o })
+    by_number : (o : Option ℕ) → aligned_faults to (layout_extent s.layouts to.decomposition) (array_numbered s.arrays o) l.name l.at ≡ []
+        → IsAimed to (record s { arrays = arrays_aligned to s.arrays o })
     by_number None f = cc
     by_number (Some n) f = by_entry n (slice_get s.arrays n) refl f
 
@@ -362,19 +411,30 @@ some_value : (o : Option ℤ) → IsValued o → (z : ℤ) × (o ≡ Some z)
 some_value None is = absurd is
 some_value (Some z) is = (z, refl)
 
-aim_there : (loops : List (List ℕ)) (s : Scope) (target : List ℕ) (at : SourcePlace) (add : List Term) → IsSoundScope s → target_faults s target at ≡ []
+aim_there : (loops : List (List ℕ)) (s : Scope) (target : List ℕ) (at : SourcePlace) (add : List Term) → IsSoundScope s
+    → target_faults s target at ≡ []
     → offset_faults s.names at loops (Some (pos 0)) add ≡ [] → IsTo s.layouts (alignment_of s target at add)
 aim_there loops s target at add g none fine =
-    from (is_some-some (as_decomposition (found s.names target)) (not_false _ (test_false (not (is_some (as_decomposition (found s.names target)))) at (cause.Unknown target) none)))
-    (some_value (offset_value s.names at (Some (pos 0)) add) (offset_valued s.names at loops (constant_in s.arrays s.layouts s.names at g.names) (Some (pos 0)) add zero_small fine))
+    from (is_some-some (as_decomposition (found s.names target))
+    (not_false _ (test_false (not (is_some (as_decomposition (found s.names target)))) at (cause.Unknown target) none)))
+    (some_value (offset_value s.names at (Some (pos 0)) add)
+    (offset_valued s.names at loops (constant_in s.arrays s.layouts s.names at g.names) (Some (pos 0)) add zero_small fine))
   where
     zero_small : IsSmall (pos 0)
     zero_small = record { low = omega (arith, ints); high = omega (arith, ints) }
 
-    from : (d : ℕ) × (as_decomposition (found s.names target) ≡ Some d) → (z : ℤ) × (offset_value s.names at (Some (pos 0)) add ≡ Some z) → IsTo s.layouts (alignment_of s target at add)
-    from (d, is) (z, value) = record { decomposition = d; offset = z; decomposition_is = is; offset_is = value; within = layout_in s g target d is }
+    from : (d : ℕ) × (as_decomposition (found s.names target) ≡ Some d) → (z : ℤ) × (offset_value s.names at (Some (pos 0)) add ≡ Some z)
+        → IsTo s.layouts (alignment_of s target at add)
+    from (d, is) (z, value) = record {
+      decomposition = d;
+      offset = z;
+      decomposition_is = is;
+      offset_is = value;
+      within = layout_in s g target d is;
+    }
 
-align_kept : (loops : List (List ℕ)) (s : Scope) (arrays : List Listed) (target : List ℕ) (at : SourcePlace) (add : List Term) → IsSoundScope s
+align_kept : (loops : List (List ℕ)) (s : Scope) (arrays : List Listed) (target : List ℕ) (at : SourcePlace) (add : List Term)
+    → IsSoundScope s
     → target_faults s target at ++ (offset_faults s.names at loops (Some (pos 0)) add
     ++ along (after_aligned (alignment_of s target at add)) (listed_faults (alignment_of s target at add)) s arrays) ≡ []
     → IsSoundScope (fold (after_aligned (alignment_of s target at add)) s arrays)
@@ -384,7 +444,11 @@ align_kept loops s arrays target at add g none =
     let offset = offset_faults s.names at loops (Some (pos 0)) add in
     let rest = right_empty (target_faults s target at) (offset ++ walk) none in
     let all = kept_along (IsAimed to) (λ (l : Listed). Unit {0}) (after_aligned to) (listed_faults to) (aligned_kept to) arrays s
-    (record { sound = g; aim = aim_there loops s target at add g (left_empty (target_faults s target at) (offset ++ walk) none) (left_empty offset walk rest) })
+    (record {
+      sound = g;
+      aim = aim_there loops s target at add g (left_empty (target_faults s target at) (offset ++ walk) none)
+          (left_empty offset walk rest);
+    })
     (anything arrays) (right_empty offset walk rest) in
     all.sound
 
@@ -405,7 +469,8 @@ listed_there s g q n e = within_arrays s.arrays n (λ (x : ArrayEntry). x.name �
 read_kept : (s : Scope) (l : Listed) → IsSoundScope s → Unit {0} → read_faults s l ≡ [] → IsSoundScope (after_read s l)
 read_kept s l g q none = by_number (number_of s l) refl none
   where
-    by_test : (n : ℕ) → n < length s.arrays → (b : Bool) → is_read s.reads (Some n) ≡ b → IsSoundScope (record s { reads = if b then s.reads else s.reads ++ pos n ∷ [] })
+    by_test : (n : ℕ) → n < length s.arrays → (b : Bool) → is_read s.reads (Some n) ≡ b
+        → IsSoundScope (record s { reads = if b then s.reads else s.reads ++ pos n ∷ [] })
     by_test n within true e = g
     by_test n within false e = record {
       few_arrays = g.few_arrays;
@@ -414,18 +479,22 @@ read_kept s l g q none = by_number (number_of s l) refl none
       layouts = g.layouts;
       arrays = g.arrays;
       reads = All-push (IsNumber (length s.arrays)) s.reads (pos n) g.reads (omega (arith, ints), within);
-      reads_apart = all_pairs_push (λ (a b : ℤ). a ≢ b) s.reads (pos n) g.reads_apart (λ k d inside same. true_not_false _ (int_same (get_or s.reads k d) (pos n) same) (any_false (λ v. int_eq v (pos n)) s.reads e k d inside));
+      reads_apart = all_pairs_push (λ (a b : ℤ). a ≢ b) s.reads (pos n) g.reads_apart
+          (λ k d inside same. true_not_false _ (int_same (get_or s.reads k d) (pos n) same)
+          (any_false (λ v. int_eq v (pos n)) s.reads e k d inside));
       outputs = g.outputs;
     }
 
-    by_number : (o : Option ℕ) → number_of s l ≡ o → again_faults (is_read s.reads o) o l ≡ [] → IsSoundScope (record s { reads = reads_with s.reads o })
+    by_number : (o : Option ℕ) → number_of s l ≡ o → again_faults (is_read s.reads o) o l ≡ []
+        → IsSoundScope (record s { reads = reads_with s.reads o })
     by_number None e f = cc
     by_number (Some n) e f = by_test n (listed_there s g l.name n e) (is_read s.reads (Some n)) refl
 
 output_kept : (s : Scope) (l : Listed) → IsSoundScope s → Unit {0} → output_faults s l ≡ [] → IsSoundScope (after_output s l)
 output_kept s l g q none = by_number (number_of s l) refl none
   where
-    by_test : (n : ℕ) → n < length s.arrays → (b : Bool) → IsSoundScope (record s { outputs = if b then s.outputs else s.outputs ++ record { array = n; at = l.at } ∷ [] })
+    by_test : (n : ℕ) → n < length s.arrays → (b : Bool)
+        → IsSoundScope (record s { outputs = if b then s.outputs else s.outputs ++ record { array = n; at = l.at } ∷ [] })
     by_test n within true = g
     by_test n within false = record {
       few_arrays = g.few_arrays;
@@ -438,19 +507,27 @@ output_kept s l g q none = by_number (number_of s l) refl none
       outputs = All-push (λ (o : OutputName). o.array < length s.arrays) s.outputs _ g.outputs within;
     }
 
-    by_number : (o : Option ℕ) → number_of s l ≡ o → again_faults (is_output s.outputs o) o l ≡ [] → IsSoundScope (record s { outputs = outputs_with s.outputs o l.at })
+    by_number : (o : Option ℕ) → number_of s l ≡ o → again_faults (is_output s.outputs o) o l ≡ []
+        → IsSoundScope (record s { outputs = outputs_with s.outputs o l.at })
     by_number None e f = cc
     by_number (Some n) e f = by_test n (listed_there s g l.name n e) (is_output s.outputs (Some n))
 
 -- ---- all declarations
 
-declaration_kept : (loops : List (List ℕ)) (s : Scope) (x : Declaration) → IsSoundScope s → Unit {0} → declaration_faults loops s x ≡ [] → IsSoundScope (after_declaration s x)
-declaration_kept loops s (declaration.Parameter list) g q none = kept_along IsSoundScope (λ (p : Parameter). Unit {0}) after_parameter (parameter_faults loops) (parameter_kept loops) list s g (anything list) none
-declaration_kept loops s (declaration.Integer list) g q none = kept_along IsSoundScope (λ (z : SizedName). Unit {0}) after_array (array_faults loops) (array_kept loops) list s g (anything list) none
-declaration_kept loops s (declaration.Decomposition list) g q none = kept_along IsSoundScope (λ (z : SizedName). Unit {0}) after_layout (layout_faults loops) (layout_kept loops) list s g (anything list) none
-declaration_kept loops s (declaration.Align arrays dummy target target_at add) g q none = align_kept loops s arrays target target_at add g none
-declaration_kept loops s (declaration.Read list) g q none = kept_along IsSoundScope (λ (l : Listed). Unit {0}) after_read read_faults read_kept list s g (anything list) none
-declaration_kept loops s (declaration.Output list) g q none = kept_along IsSoundScope (λ (l : Listed). Unit {0}) after_output output_faults output_kept list s g (anything list) none
+declaration_kept : (loops : List (List ℕ)) (s : Scope) (x : Declaration) → IsSoundScope s → Unit {0} → declaration_faults loops s x ≡ []
+    → IsSoundScope (after_declaration s x)
+declaration_kept loops s (declaration.Parameter list) g q none = kept_along IsSoundScope (λ (p : Parameter). Unit {0}) after_parameter
+    (parameter_faults loops) (parameter_kept loops) list s g (anything list) none
+declaration_kept loops s (declaration.Integer list) g q none = kept_along IsSoundScope (λ (z : SizedName). Unit {0}) after_array
+    (array_faults loops) (array_kept loops) list s g (anything list) none
+declaration_kept loops s (declaration.Decomposition list) g q none = kept_along IsSoundScope (λ (z : SizedName). Unit {0}) after_layout
+    (layout_faults loops) (layout_kept loops) list s g (anything list) none
+declaration_kept loops s (declaration.Align arrays dummy target target_at add) g q none = align_kept loops s arrays target target_at add g
+    none
+declaration_kept loops s (declaration.Read list) g q none = kept_along IsSoundScope (λ (l : Listed). Unit {0}) after_read read_faults
+    read_kept list s g (anything list) none
+declaration_kept loops s (declaration.Output list) g q none = kept_along IsSoundScope (λ (l : Listed). Unit {0}) after_output
+    output_faults output_kept list s g (anything list) none
 
 nothing_sound : IsSoundScope nothing
 nothing_sound = record {
@@ -465,4 +542,5 @@ nothing_sound = record {
 }
 
 pub declared_sound : (loops : List (List ℕ)) (list : List Declaration) → declared_faults loops list ≡ [] → IsSoundScope (declared list)
-declared_sound loops list none = kept_along IsSoundScope (λ (x : Declaration). Unit {0}) after_declaration (declaration_faults loops) (declaration_kept loops) list nothing nothing_sound (anything list) none
+declared_sound loops list none = kept_along IsSoundScope (λ (x : Declaration). Unit {0}) after_declaration (declaration_faults loops)
+    (declaration_kept loops) list nothing nothing_sound (anything list) none

@@ -1,5 +1,6 @@
 -- The loops of a resolved program are shaped: each addition to a draft keeps its references few and served.
-use Rattle.std.proofs.Common.{◌≡◌, refl, ℕ, ℤ, ◌≤◌, ◌+◌, Bool, true, false, if◌then◌else◌, arith, List, [], ◌∷◌, ◌++◌, Option, Some, None, sym, subst, length, length-append}
+use Rattle.std.proofs.Common.{◌≡◌, refl, ℕ, ℤ, ◌≤◌, ◌+◌, Bool, true, false, if◌then◌else◌, arith, List, [], ◌∷◌, ◌++◌, Option, Some, None}
+use Rattle.std.proofs.Common.{sym, subst, length, length-append}
 use Rattle.std.specs.Prelude.{fold, is_some, nat_le, IsSomeAnd, IfOk, Result, Ok, Err}
 use Rattle.std.proofs.lemmas.Bool.Decides.{nat_tests}
 use Rattle.std.proofs.lemmas.List.Elements.{All-nil, All-push}
@@ -41,7 +42,8 @@ last_of : Option Reference → List Reference → Option Reference
 last_of before [] = before
 last_of before (r ∷ rs) = last_of (Some r) rs
 
-served_push : (before : Option Reference) (rs : List Reference) (r : Reference) → AreServed before rs → IsServed (last_of before rs) r.subscript → AreServed before (rs ++ r ∷ [])
+served_push : (before : Option Reference) (rs : List Reference) (r : Reference) → AreServed before rs
+    → IsServed (last_of before rs) r.subscript → AreServed before (rs ++ r ∷ [])
 unfolding last_of
 served_push before [] r h s = (s, tt)
 served_push before (x ∷ xs) r h s = (h.0, served_push (Some x) xs r h.1 s)
@@ -67,15 +69,19 @@ same_good d e same g = record {
   served = subst (λ (rs : List Reference). AreServed None rs) (sym same) g.served;
 }
 
-after_stamp-references : (d : Draft) (decomposition : ℕ) (offset : ℤ) (marks : List Mark) → (after_stamp d decomposition offset marks).references ≡ d.references
+after_stamp-references : (d : Draft) (decomposition : ℕ) (offset : ℤ) (marks : List Mark)
+    → (after_stamp d decomposition offset marks).references ≡ d.references
 after_stamp-references d decomposition offset marks =
-    one_of (is_some (stamp_in d.stamped decomposition offset marks)) d _ d.references refl (one_of (is_worn d.used decomposition) d _ d.references refl refl)
+    one_of (is_some (stamp_in d.stamped decomposition offset marks)) d _ d.references refl
+    (one_of (is_worn d.used decomposition) d _ d.references refl refl)
 
-pub after_own_stamp-references : (h : Head) (a : Around) (d : Draft) (s : Subscript) (array : Option ℕ) → (after_own_stamp h a d s array).references ≡ d.references
+pub after_own_stamp-references : (h : Head) (a : Around) (d : Draft) (s : Subscript) (array : Option ℕ)
+    → (after_own_stamp h a d s array).references ≡ d.references
 after_own_stamp-references h a d s None = refl
 after_own_stamp-references h a d s (Some array) = after_stamp-references d _ _ _
 
-pub after_target-references : (d : Draft) (name : List ℕ) (operator : Option Combine) → (after_target d name operator).references ≡ d.references
+pub after_target-references : (d : Draft) (name : List ℕ) (operator : Option Combine) → (after_target d name operator).references
+    ≡ d.references
 after_target-references d name operator = one_of (is_crowded d) d _ d.references refl refl
 
 -- ---- what adds to them
@@ -83,9 +89,11 @@ after_target-references d name operator = one_of (is_crowded d) d _ d.references
 room : (n : ℕ) → nat_le 64 n ≡ false → (n + 1) ≤ 64
 room n h = grind (arith, nat_tests)
 
-pushed : (d e : Draft) (r : Reference) → nat_le 64 (length d.references) ≡ false → e.references ≡ d.references ++ r ∷ [] → IsServed (last_of None d.references) r.subscript → IsGood d → IsGood e
+pushed : (d e : Draft) (r : Reference) → nat_le 64 (length d.references) ≡ false → e.references ≡ d.references ++ r ∷ []
+    → IsServed (last_of None d.references) r.subscript → IsGood d → IsGood e
 pushed d e r space same s g = record {
-  few = subst (λ (rs : List Reference). length rs ≤ 64) (sym same) (subst (λ n. n ≤ 64) (sym (length-append d.references (r ∷ []))) (room (length d.references) space));
+  few = subst (λ (rs : List Reference). length rs ≤ 64) (sym same) (subst (λ n. n ≤ 64) (sym (length-append d.references (r ∷ [])))
+      (room (length d.references) space));
   served = subst (λ (rs : List Reference). AreServed None rs) (sym same) (served_push None d.references r g.served s);
 }
 
@@ -101,7 +109,8 @@ module _ (h : Head) (a : Around) where
   -- a draft that is full, or whose last reference serves this subscript
   abbrev Serves : Draft → Subscript → Type 0
   Serves d (Plain add) = Unit {0}
-  Serves d (Through index_array at inner_add add) = is_crowded d ≡ false → last_of None d.references ≡ Some (index_reference h a index_array inner_add)
+  Serves d (Through index_array at inner_add add) = is_crowded d ≡ false
+      → last_of None d.references ≡ Some (index_reference h a index_array inner_add)
   Serves d (Scalar s) = Unit {0}
 
   index_by : (d : Draft) (r : Reference) (b : Bool) → is_crowded d ≡ b
@@ -123,10 +132,12 @@ module _ (h : Head) (a : Around) where
   after_index-good d (Through index_array at inner_add add) g = with_good d (index_reference h a index_array inner_add) tt g
   after_index-good d (Scalar s) g = g
 
-  served_by : (d : Draft) (s : Subscript) → Serves d s → is_crowded d ≡ false → IsServed (last_of None d.references) (subscript_resolved h a s)
+  served_by : (d : Draft) (s : Subscript) → Serves d s → is_crowded d ≡ false
+      → IsServed (last_of None d.references) (subscript_resolved h a s)
   served_by d (Plain add) p f = tt
   served_by d (Through index_array at inner_add add) p f =
-      subst (λ (o : Option Reference). IsSomeAnd o (IsIndexFor (array_or_first h a index_array) (resolved.Plain (offset_resolved h a inner_add)))) (sym (p f))
+      subst (λ (o : Option Reference). IsSomeAnd o (IsIndexFor (array_or_first h a index_array)
+      (resolved.Plain (offset_resolved h a inner_add)))) (sym (p f))
       (record { role = refl; array = refl; subscript = refl })
   served_by d (Scalar s) p f = tt
 
@@ -136,23 +147,27 @@ module _ (h : Head) (a : Around) where
   own_by r d e false f p g =
       let same = after_own_stamp-references h a d e.subscript (array_of h a e.name) in
       with_good (after_own_stamp h a d e.subscript (array_of h a e.name)) (own_reference h a d r e)
-      (subst (λ (rs : List Reference). IsServed (last_of None rs) (subscript_resolved h a e.subscript)) (sym same) (served_by d e.subscript p f))
+      (subst (λ (rs : List Reference). IsServed (last_of None rs) (subscript_resolved h a e.subscript)) (sym same)
+      (served_by d e.subscript p f))
       (same_good d (after_own_stamp h a d e.subscript (array_of h a e.name)) same g)
 
   after_element-good : (r : Role) (d : Draft) (e : Element) → IsGood d → IsGood (after_element h a r d e)
   after_element-good r d e g =
-      own_by r (after_index h a d e.subscript) e (is_crowded (after_index h a d e.subscript)) refl (after_index-serves d e.subscript) (after_index-good d e.subscript g)
+      own_by r (after_index h a d e.subscript) e (is_crowded (after_index h a d e.subscript)) refl (after_index-serves d e.subscript)
+      (after_index-good d e.subscript g)
 
 module _ (h : Head) (a : Around) (index : List ℕ) where
   after_expr-good : (e : Expr) (d : Draft) → IsGood d → IsGood (after_expr h a index d e)
   after_expr-good (Number value) d g = g
-  after_expr-good (Named name at) d g = same_good d (after_name h a index d name at) (one_of (name_eq name index) d _ d.references refl refl) g
+  after_expr-good (Named name at) d g = same_good d (after_name h a index d name at)
+      (one_of (name_eq name index) d _ d.references refl refl) g
   after_expr-good (Read element) d g = after_element-good h a role.Read d element g
   after_expr-good (Negate' s (more_of-Expr inner end_of-Expr)) d g = after_expr-good inner d g
   after_expr-good (Binary' op s (more_of-Expr left end_of-Expr) t (more_of-Expr right end_of-Expr)) d g =
       after_expr-good right (after_expr h a index d left) (after_expr-good left d g)
 
-  after_written-good : (operator : Option Combine) (target : Element) (value : Expr) (d : Draft) → IsGood d → IsGood (after_written h a index operator target value d)
+  after_written-good : (operator : Option Combine) (target : Element) (value : Expr) (d : Draft) → IsGood d
+      → IsGood (after_written h a index operator target value d)
   after_written-good operator target value d g =
       same_good (after_expr h a index (behind_target h a operator d target) value) _ refl
       (after_expr-good value (behind_target h a operator d target)
@@ -182,7 +197,8 @@ statement_shaped h w (Distribute at name name_at form) p = p
 statement_shaped h w (Print at name name_at) p = p
 statement_shaped h w (Do at variable variable_at low high inside) p = p
 statement_shaped h w (Forall loop) p =
-    All-push IsShaped w.sites (site_of h (around w loop.at) loop (draft_of h (around w loop.at) w.used loop)) p (site_shaped h (around w loop.at) w.used loop)
+    All-push IsShaped w.sites (site_of h (around w loop.at) loop (draft_of h (around w loop.at) w.used loop)) p
+    (site_shaped h (around w loop.at) w.used loop)
 
 walk_shaped : (h : Head) (list : List Statement) (w : Walk) → AreShaped w.sites → AreShaped (fold (step h) w list).sites
 walk_shaped h [] w p = p

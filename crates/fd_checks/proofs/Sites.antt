@@ -1,5 +1,6 @@
 -- The loops of an accepted program.
-use Rattle.std.proofs.Common.{◌≡◌, refl, ℕ, ◌≤◌, ◌<◌, ◌+◌, ◌-◌, Bool, true, false, if◌then◌else◌, arith, List, [], ◌∷◌, ◌++◌, length, length-append, get_or, Option, Some, None, ap, sym, ◌∙◌, subst}
+use Rattle.std.proofs.Common.{◌≡◌, refl, ℕ, ◌≤◌, ◌<◌, ◌+◌, ◌-◌, Bool, true, false, if◌then◌else◌, arith, List, [], ◌∷◌, ◌++◌, length}
+use Rattle.std.proofs.Common.{length-append, get_or, Option, Some, None, ap, sym, ◌∙◌, subst}
 use Rattle.std.specs.Prelude.{AllPairs, fold, IsSome}
 use Rattle.std.specs.Option.{option_map_or}
 use Rattle.std.proofs.lemmas.List.Elements.{All-nil, All-weaker}
@@ -37,15 +38,19 @@ module _ (h : Head) (a : Around) (index : List ℕ) where
   target_body : (d : Draft) (name : List ℕ) (operator : Option Combine) → (after_target d name operator).body ≡ d.body
   target_body d name operator = by_test (is_crowded d)
     where
-      by_test : (b : Bool) → (if b then d else record d { targets = d.targets ++ record { name = name; operator = operator } ∷ [] }).body ≡ d.body
+      by_test : (b : Bool) → (if b then d else record d { targets = d.targets ++ record { name = name; operator = operator } ∷ [] }).body
+          ≡ d.body
       by_test true = refl
       by_test false = refl
 
-  written_more : (operator : Option Combine) (target : Element) (value : Expr) (d : Draft) → length (after_written h a index operator target value d).body ≡ length d.body + 1
+  written_more : (operator : Option Combine) (target : Element) (value : Expr) (d : Draft)
+      → length (after_written h a index operator target value d).body ≡ length d.body + 1
   written_more operator target value d =
       let same : (after_expr h a index (behind_target h a operator d target) value).body ≡ d.body =
-      expr_body h a index value (behind_target h a operator d target) ∙ element_body h a role.Target (after_target d target.name operator) target ∙ target_body d target.name operator in
-      length-append (after_expr h a index (behind_target h a operator d target) value).body _ ∙ ap (λ (l : List CheckedBody). length l + 1) same
+      expr_body h a index value (behind_target h a operator d target) ∙ element_body h a role.Target (after_target d target.name operator)
+      target ∙ target_body d target.name operator in
+      length-append (after_expr h a index (behind_target h a operator d target) value).body _
+      ∙ ap (λ (l : List CheckedBody). length l + 1) same
 
   body_more : (d : Draft) (s : BodyStatement) → length (after_body h a index d s).body ≡ length d.body + 1
   body_more d (statement.Assign target value) = written_more None target value d
@@ -57,7 +62,8 @@ module _ (h : Head) (a : Around) (index : List ℕ) where
       go : (rest : List BodyStatement) (e : Draft) → length e.body + length rest ≤ length (fold (after_body h a index) e rest).body
       go [] e = omega arith
       go (s ∷ rest) e =
-          let n : length (after_body h a index e s).body + length rest ≤ length (fold (after_body h a index) (after_body h a index e s) rest).body = go rest (after_body h a index e s) in
+          let n : length (after_body h a index e s).body + length rest
+          ≤ length (fold (after_body h a index) (after_body h a index e s) rest).body = go rest (after_body h a index e s) in
           let m : length (after_body h a index e s).body ≡ length e.body + 1 = body_more e s in
           omega arith
 
@@ -85,11 +91,14 @@ module _ (h : Head) (g : IsSoundHead h) (a : Around) (loop : Loop) (used : List 
   pub draft_sound : IsSound h a loop used (draft_of h a used loop)
   draft_sound =
       kept_along (IsSound h a loop used) (λ (s : BodyStatement). Unit {0}) (after_body h a loop.index) (body_faults h a loop.index)
-      (λ d s sound q fine. body_sound h a loop used (array_known h g a) (λ k within. subst (λ n. decomposition_of h.tables.arrays k < n) (sym whole) (placed h g k within)) d s sound fine)
+      (λ d s sound q fine. body_sound h a loop used (array_known h g a) (λ k within. subst (λ n. decomposition_of h.tables.arrays k < n)
+      (sym whole) (placed h g k within)) d s sound fine)
       loop.body (start_draft used) (start_sound h a loop used) (anything loop.body) none
 
-  target_is : (references : List Reference) (t : Target) (s : CheckedBody) (is : IsTarget h a references t s) → texts.array_of references (target_of s) ≡ is.reference.array
-  target_is references t s is = ap (texts.array_of references) is.number ∙ ap (λ (o : Option Reference). option_map_or (λ (r : Reference). r.array) o 0) is.there
+  target_is : (references : List Reference) (t : Target) (s : CheckedBody) (is : IsTarget h a references t s)
+      → texts.array_of references (target_of s) ≡ is.reference.array
+  target_is references t s is = ap (texts.array_of references) is.number
+      ∙ ap (λ (o : Option Reference). option_map_or (λ (r : Reference). r.array) o 0) is.there
 
   agreed : (d : Draft) → IsSound h a loop used d → AllPairs (Agree (site_of h a loop d)) d.body
   agreed d sound = λ i j s before within same.
@@ -97,8 +106,10 @@ module _ (h : Head) (g : IsSoundHead h) (a : Around) (loop : Loop) (used : List 
       let n : length d.targets ≡ length d.body = zip_length (IsTarget h a d.references) d.targets d.body sound.targets in
       let one = zip_at (IsTarget h a d.references) d.targets d.body i none_yet s sound.targets (omega arith) in
       let other = zip_at (IsTarget h a d.references) d.targets d.body j none_yet s sound.targets (omega arith) in
-      let array : one.reference.array ≡ other.reference.array = sym (target_is d.references _ _ one) ∙ same ∙ target_is d.references _ _ other in
-      let name = one_name h g a (get_or d.targets i none_yet).name (get_or d.targets j none_yet).name other.reference.array (one.array ∙ ap Some array) other.array in
+      let array : one.reference.array ≡ other.reference.array = sym (target_is d.references _ _ one) ∙ same
+      ∙ target_is d.references _ _ other in
+      let name = one_name h g a (get_or d.targets i none_yet).name (get_or d.targets j none_yet).name other.reference.array (one.array
+      ∙ ap Some array) other.array in
       let alike = sound.alike i j none_yet before (omega arith) name in
       (subst IsSome (sym one.operator) alike.0, one.operator ∙ alike.1 ∙ sym other.operator)
 
@@ -109,7 +120,8 @@ module _ (h : Head) (g : IsSoundHead h) (a : Around) (loop : Loop) (used : List 
       let count : length loop.body ≤ length (draft_of h a used loop).body = bodies_counted h a loop.index loop.body (start_draft used) in
       record {
         few = shaped.few;
-        references = All-weaker (IsReferred h.tables.arrays used (draft_of h a used loop).used) (IsReference h.tables.arrays) (λ r is. is.reference) (draft_of h a used loop).references sound.referred.references;
+        references = All-weaker (IsReferred h.tables.arrays used (draft_of h a used loop).used) (IsReference h.tables.arrays)
+            (λ r is. is.reference) (draft_of h a used loop).references sound.referred.references;
         served = shaped.served;
         some = omega arith;
         body = sound.body;

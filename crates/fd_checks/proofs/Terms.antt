@@ -46,18 +46,22 @@ after_index-terms h a d (Plain add) = refl
 after_index-terms h a d (Through index_array at inner_add add) = with_reference-terms d _
 after_index-terms h a d (Scalar s) = refl
 
-after_stamp-terms : (d : Draft) (decomposition : ℕ) (offset : ℤ) (marks : List Mark) → (after_stamp d decomposition offset marks).terms ≡ d.terms
+after_stamp-terms : (d : Draft) (decomposition : ℕ) (offset : ℤ) (marks : List Mark) → (after_stamp d decomposition offset marks).terms
+    ≡ d.terms
 after_stamp-terms d decomposition offset marks =
-    one_of (is_some (stamp_in d.stamped decomposition offset marks)) d _ d.terms refl (one_of (is_worn d.used decomposition) d _ d.terms refl refl)
+    one_of (is_some (stamp_in d.stamped decomposition offset marks)) d _ d.terms refl
+    (one_of (is_worn d.used decomposition) d _ d.terms refl refl)
 
-pub after_own_stamp-terms : (h : Head) (a : Around) (d : Draft) (s : Subscript) (array : Option ℕ) → (after_own_stamp h a d s array).terms ≡ d.terms
+pub after_own_stamp-terms : (h : Head) (a : Around) (d : Draft) (s : Subscript) (array : Option ℕ) → (after_own_stamp h a d s array).terms
+    ≡ d.terms
 after_own_stamp-terms h a d s None = refl
 after_own_stamp-terms h a d s (Some array) = after_stamp-terms d _ _ _
 
 after_own-terms : (h : Head) (a : Around) (r : Role) (d : Draft) (e : Element) → (after_own h a r d e).terms ≡ d.terms
 after_own-terms h a r d e =
     one_of (is_crowded d) d _ d.terms refl
-    (with_reference-terms (after_own_stamp h a d e.subscript (array_of h a e.name)) _ ∙ after_own_stamp-terms h a d e.subscript (array_of h a e.name))
+    (with_reference-terms (after_own_stamp h a d e.subscript (array_of h a e.name)) _
+    ∙ after_own_stamp-terms h a d e.subscript (array_of h a e.name))
 
 after_element-terms : (h : Head) (a : Around) (r : Role) (d : Draft) (e : Element) → (after_element h a r d e).terms ≡ d.terms
 after_element-terms h a r d e = after_own-terms h a r (after_index h a d e.subscript) e ∙ after_index-terms h a d e.subscript
@@ -88,10 +92,12 @@ module _ (h : Head) (a : Around) (index : List ℕ) where
   after_expr-terms (Binary' op s (more_of-Expr left end_of-Expr) t (more_of-Expr right end_of-Expr)) d p =
       after_expr-terms right (after_expr h a index d left) (after_expr-terms left d p)
 
-  after_written-terms : (operator : Option Combine) (target : Element) (value : Expr) (d : Draft) → All IsTerm d.terms → All IsTerm (after_written h a index operator target value d).terms
+  after_written-terms : (operator : Option Combine) (target : Element) (value : Expr) (d : Draft) → All IsTerm d.terms
+      → All IsTerm (after_written h a index operator target value d).terms
   after_written-terms operator target value d p =
       after_expr-terms value (behind_target h a operator d target)
-      (along_same d.terms _ (after_element-terms h a role.Target (after_target d target.name operator) target ∙ after_target-terms d target.name operator) p)
+      (along_same d.terms _ (after_element-terms h a role.Target (after_target d target.name operator) target
+      ∙ after_target-terms d target.name operator) p)
 
   after_body-terms : (s : BodyStatement) (d : Draft) → All IsTerm d.terms → All IsTerm (after_body h a index d s).terms
   after_body-terms (statement.Assign target value) d p = after_written-terms None target value d p
@@ -111,7 +117,8 @@ statement_terms h w (Distribute at name name_at form) p = p
 statement_terms h w (Print at name name_at) p = p
 statement_terms h w (Do at variable variable_at low high inside) p = p
 statement_terms h w (Forall loop) p =
-    All-push HasTerms w.sites (site_of h (around w loop.at) loop (draft_of h (around w loop.at) w.used loop)) p (site_terms h (around w loop.at) w.used loop)
+    All-push HasTerms w.sites (site_of h (around w loop.at) loop (draft_of h (around w loop.at) w.used loop)) p
+    (site_terms h (around w loop.at) w.used loop)
 
 walk_terms : (h : Head) (list : List Statement) (w : Walk) → HaveTerms w.sites → HaveTerms (fold (step h) w list).sites
 walk_terms h [] w p = p

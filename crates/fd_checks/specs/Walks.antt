@@ -1,5 +1,6 @@
 -- The statements of a program in order: DISTRIBUTE, PRINT, DO and FORALL, resolved, and their faults.
-use Rattle.std.specs.Prelude.{◌≡◌, ℕ, ◌-◌, Bool, false, not, ◌||◌, ◌&&◌, ◌==◌, if◌then◌else◌, List, [], ◌∷◌, ◌++◌, length, map, fold, replicate, slice_get, unwrap_or, nat_le, nat_lt, Option, Some, None, is_some, Result, Ok, Err}
+use Rattle.std.specs.Prelude.{◌≡◌, ℕ, ◌-◌, Bool, false, not, ◌||◌, ◌&&◌, ◌==◌, if◌then◌else◌, List, [], ◌∷◌, ◌++◌, length, map, fold}
+use Rattle.std.specs.Prelude.{replicate, slice_get, unwrap_or, nat_le, nat_lt, Option, Some, None, is_some, Result, Ok, Err}
 use Rattle.std.specs.List.{list_any}
 use Rattle.chaos_dist.specs.declared.shape.Shape.TheVariants as shape
 use Rattle.chaos_dist.specs.declared.step_form.StepForm.{StepForm}
@@ -100,7 +101,8 @@ abbrev pub map_faults : Head → Around → List ℕ → List ℕ → SourcePlac
 map_faults h a name map_name map_at =
     array_unknown h a map_name map_at
     ++ fault_if (is_some (array_of h a map_name)
-    && is_other_extent (meant_extent h (known h.scope.names a.here map_name)) (meant_extent h (known h.scope.names a.here name))) map_at cause.MapLength
+    && is_other_extent (meant_extent h (known h.scope.names a.here map_name)) (meant_extent h (known h.scope.names a.here name))) map_at
+    cause.MapLength
 
 abbrev pub size_of : Head → Around → Scalar → Option ℕ
 size_of h a size = extent_within (value_of h.scope.names a.here size)

@@ -1,14 +1,16 @@
 ghost use Rattle.std.specs.Prelude.{◌≡◌, ◌++◌, ◌∷◌, [], Some, slice_get, OnOk, IfOk};
-ghost use Rattle.fd_checks.specs.Walks.{passed, variables_of, around, taken_faults, with_statement, own_decomposition, meant_decomposition, array_extent, meant_extent, is_other_extent, map_faults, size_of, size_faults, form_faults, form_resolved, distribute_faults, distribute_resolved, do_faults, after_do, site_of, with_site, after_loop, loop_head_faults, loop_faults, after_statement, statement_faults, step, step_faults};
+ghost use Rattle.fd_checks.specs.Walks.{passed, variables_of, around, taken_faults, with_statement, own_decomposition, meant_decomposition};
+ghost use Rattle.fd_checks.specs.Walks.{array_extent, meant_extent, is_other_extent, map_faults, size_of, size_faults, form_faults};
+ghost use Rattle.fd_checks.specs.Walks.{form_resolved, distribute_faults, distribute_resolved, do_faults, after_do, site_of, with_site};
+ghost use Rattle.fd_checks.specs.Walks.{after_loop, loop_head_faults, loop_faults, after_statement, statement_faults, step, step_faults};
 ghost use Rattle.fd_scope.specs.Scope.{layout_extent};
 ghost use Rattle.std.specs.List.{list_any};
 ghost use Rattle.fd_scope.specs.Names.{name_eq};
-ghost use Rattle.fd_program.specs.Places.{decomposition_of};
 
 use crate::{Open, OpenList, Walk};
 use chaos_dist::{Shape, StepForm};
 use fd_loops::{Draft, UsedStamps, loop_body};
-use fd_program::{CheckedStatement, Site, Sites};
+use fd_program::{CheckedStatement, Site, Sites, decomposition};
 use fd_resolve::{Around, array_named, array_or_zero, note_array, note_scalar, resolve, same_name};
 use fd_scope::{
     ArrayEntry, Faults, Head, Known, LayoutEntry, Meaning, as_extent, declared_value, narrow,
@@ -104,15 +106,6 @@ impl Walk {
     }
 }
 
-fn decomposition_at(head: &Head, array: u32) -> u32
-    ensures { result ≡ decomposition_of head.now.tables.arrays array }
-{
-    match head.tables.arrays.as_slice().get(array as usize) {
-        Some(facts) => facts.decomposition,
-        None => 0,
-    }
-}
-
 fn entry_at(head: &Head, array: u32) -> Option<ArrayEntry>
     ensures { result ≡ slice_get head.now.scope.arrays array }
 {
@@ -128,7 +121,7 @@ fn own_of(head: &Head, array: u32, entry: Option<ArrayEntry>) -> Option<u32>
             if entry.aligned.is_some() {
                 None
             } else {
-                Some(decomposition_at(head, array))
+                Some(decomposition(head.tables.arrays.as_slice(), array))
             }
         }
     }

@@ -1,5 +1,6 @@
 -- What words ask for, by the uses that are read with a refusal at once.
-use Rattle.std.proofs.Common.{◌≡◌, ◌∙◌, ◌⊎◌, ◌++◌, ◌==◌, inl, inr, Bool, true, false, List, [], ◌∷◌, Option, Some, None, option_and_then, if◌then◌else◌, refl, ap, sym, append_assoc, append-nil}
+use Rattle.std.proofs.Common.{◌≡◌, ◌∙◌, ◌⊎◌, ◌++◌, ◌==◌, inl, inr, Bool, true, false, List, [], ◌∷◌, Option, Some, None, option_and_then}
+use Rattle.std.proofs.Common.{if◌then◌else◌, refl, ap, sym, append_assoc, append-nil}
 use Rattle.std.specs.List.{list_all}
 use Rattle.std.proofs.lemmas.Bool.{and_parts}
 use Rattle.fd_command.specs.Options.{Text, value_options, flags, source_name}
@@ -17,7 +18,8 @@ one_further : (us : List Use) (u : Use) (rest : Option (List Use)) → asked_aft
 one_further us u None = refl
 one_further us u (Some more) = ap asked_once (sym (append_assoc us (u ∷ []) more))
 
-none_further : (us : List Use) (u : Use) (rest : Option (List Use)) → ((more : List Use) → asked_once (us ++ u ∷ more) ≡ None) → asked_after us (before u rest) ≡ None
+none_further : (us : List Use) (u : Use) (rest : Option (List Use)) → ((more : List Use) → asked_once (us ++ u ∷ more) ≡ None)
+    → asked_after us (before u rest) ≡ None
 none_further us u None none = refl
 none_further us u (Some more) none = none more
 
@@ -35,19 +37,22 @@ rest_of words us waiting = read value_options flags us waiting words
 
 abbrev Agree : List Text → Type 0
 Agree words = ((us : List Use) → option_and_then asked_once (rest_of words us None) ≡ asked_after us (uses_of None words))
-    × ((us : List Use) (name : Text) → is_one_of value_options name ≡ true → option_and_then asked_once (rest_of words us (Some name)) ≡ asked_after us (uses_of (Some name) words))
+    × ((us : List Use) (name : Text) → is_one_of value_options name ≡ true → option_and_then asked_once (rest_of words us (Some name))
+    ≡ asked_after us (uses_of (Some name) words))
 
 next_agrees : (words : List Text) → Agree words → (us : List Use) (u : Use)
     → option_and_then asked_once (next_use (λ x. rest_of words x None) us u) ≡ asked_after us (before u (uses_of None words))
 next_agrees words rest us u = by (has u.0 us) refl
   where
     by : (b : Bool) → has u.0 us ≡ b
-        → option_and_then asked_once (if b then None else rest_of words (us ++ u ∷ []) None) ≡ asked_after us (before u (uses_of None words))
+        → option_and_then asked_once (if b then None else rest_of words (us ++ u ∷ []) None) ≡ asked_after us
+        (before u (uses_of None words))
     by true e = sym (none_further us u (uses_of None words) (λ more. twice_asks_none us more u e))
     by false e = rest.0 (us ++ u ∷ []) ∙ sym (one_further us u (uses_of None words))
 
 said_agrees : (words : List Text) → Agree words → (us : List Use) (s : Said)
-    → option_and_then asked_once (read_said value_options flags (rest_of words) us s) ≡ asked_after us (use_said (λ waiting. uses_of waiting words) s)
+    → option_and_then asked_once (read_said value_options flags (rest_of words) us s) ≡ asked_after us
+    (use_said (λ waiting. uses_of waiting words) s)
 said_agrees words rest us (other w) = next_agrees words rest us (source_name, Some w)
 said_agrees words rest us (option name (Some v)) = by (is_one_of value_options name)
   where
@@ -58,14 +63,17 @@ said_agrees words rest us (option name (Some v)) = by (is_one_of value_options n
 said_agrees words rest us (option name None) = by (is_one_of value_options name) refl (is_one_of flags name)
   where
     by : (b : Bool) → is_one_of value_options name ≡ b → (f : Bool)
-        → option_and_then asked_once (if b then rest_of words us (Some name) else (if f then next_use (λ x. rest_of words x None) us (name, None) else None))
+        → option_and_then asked_once (if b then rest_of words us (Some name) else (if f then next_use (λ x. rest_of words x None) us
+        (name, None) else None))
         ≡ asked_after us (if b then uses_of (Some name) words else (if f then before (name, None) (uses_of None words) else None))
     by true e f = rest.1 us name e
     by false e true = next_agrees words rest us (name, None)
     by false e false = refl
 
-value_agrees : (word : Text) (words : List Text) → Kind word → Agree words → (us : List Use) (name : Text) → is_one_of value_options name ≡ true
-    → option_and_then asked_once (read_value (rest_of words) us name (said word)) ≡ asked_after us (before (name, Some word) (uses_of None words))
+value_agrees : (word : Text) (words : List Text) → Kind word → Agree words → (us : List Use) (name : Text) → is_one_of value_options name
+    ≡ true
+    → option_and_then asked_once (read_value (rest_of words) us name (said word)) ≡ asked_after us
+    (before (name, Some word) (uses_of None words))
 value_agrees word words (inl k) rest us name known = rw k.1 (next_agrees words rest us (name, Some word))
 value_agrees word words (inr k) rest us name known = rw k.3 (sym (none_further us (name, Some word) (uses_of None words)
     (λ more. dash_asks_none us more name word (inl known) (option_dashed word k.0 k.1 k.3))))
@@ -79,7 +87,8 @@ agrees (word ∷ words) clear =
     (λ us. said_agrees words rest us (said word), λ us name known. value_agrees word words (kind_of word parts.0) rest us name known)
 
 -- clear words ask for what the uses ask for
-pub asked_read : (words : List Text) → list_all is_clear words ≡ true → option_and_then asked_once (read value_options flags [] None words) ≡ asked words
+pub asked_read : (words : List Text) → list_all is_clear words ≡ true
+    → option_and_then asked_once (read value_options flags [] None words) ≡ asked words
 asked_read words clear = (agrees words clear).0 []
 
 -- ---- words that clap isn't handed
@@ -110,8 +119,10 @@ abbrev AsksNone : List Text → Type 0
 AsksNone words = ((us : List Use) → asked_after us (uses_of None words) ≡ None)
     × ((us : List Use) (name : Text) → is_one_of value_options name ≡ true → asked_after us (uses_of (Some name) words) ≡ None)
 
-said_asks_none : (words : List Text) → AsksNone words → (us : List Use) (s : Said) → asked_after us (use_said (λ waiting. uses_of waiting words) s) ≡ None
-said_asks_none words rest us (other w) = one_further us (source_name, Some w) (uses_of None words) ∙ rest.0 (us ++ (source_name, Some w) ∷ [])
+said_asks_none : (words : List Text) → AsksNone words → (us : List Use) (s : Said)
+    → asked_after us (use_said (λ waiting. uses_of waiting words) s) ≡ None
+said_asks_none words rest us (other w) = one_further us (source_name, Some w) (uses_of None words)
+    ∙ rest.0 (us ++ (source_name, Some w) ∷ [])
 said_asks_none words rest us (option name (Some v)) = by (is_one_of value_options name)
   where
     by : (b : Bool) → asked_after us (if b then before (name, Some v) (uses_of None words) else None) ≡ None
@@ -128,12 +139,16 @@ said_asks_none words rest us (option name None) = by (is_one_of value_options na
 unclear_head : (word : Text) (words : List Text) → is_clear word ≡ false → AsksNone (word ∷ words)
 unfolding uses_of
 unclear_head word words e =
-    let k = unclear_kind word e in
-    (λ us. by us k.1 k.0, λ us name known. none_further us (name, Some word) (uses_of None words) (λ more. dash_asks_none us more name word (inl known) k.0))
+    let k = unclear_kind word e in (
+      λ us. by us k.1 k.0,
+      λ us name known. none_further us (name, Some word) (uses_of None words)
+          (λ more. dash_asks_none us more name word (inl known) k.0),
+    )
   where
     by : (us : List Use) → (said word ≡ other word) ⊎ (said word ≡ option [] None) → is_dashed word ≡ true
         → asked_after us (use_said (λ waiting. uses_of waiting words) (said word)) ≡ None
-    by us (inl f) dash = rw f (none_further us (source_name, Some word) (uses_of None words) (λ more. dash_asks_none us more source_name word (inr refl) dash))
+    by us (inl f) dash = rw f (none_further us (source_name, Some word) (uses_of None words)
+        (λ more. dash_asks_none us more source_name word (inr refl) dash))
     by us (inr f) dash = rw f refl
 
 unclear_none : (words : List Text) → list_all is_clear words ≡ false → AsksNone words
@@ -145,8 +160,11 @@ unclear_none (word ∷ words) e = by (is_clear word) refl (unclear_none words)
     by false f rest = unclear_head word words f
     by true f rest =
         let more : list_all is_clear words ≡ false = rw f at e in
-        let none = rest more in
-        (λ us. said_asks_none words none us (said word), λ us name known. one_further us (name, Some word) (uses_of None words) ∙ none.0 (us ++ (name, Some word) ∷ []))
+        let none = rest more in (
+          λ us. said_asks_none words none us (said word),
+          λ us name known. one_further us (name, Some word) (uses_of None words)
+              ∙ none.0 (us ++ (name, Some word) ∷ []),
+        )
 
 -- words of which one isn't clear aren't taken
 pub unclear_asks_none : (words : List Text) → list_all is_clear words ≡ false → asked words ≡ None

@@ -1,5 +1,6 @@
 -- What clap's getters read where the uses are known.
-use Rattle.std.proofs.Common.{◌≡◌, ◌∙◌, ◌||◌, ◌++◌, Bool, true, false, not, List, [], ◌∷◌, Option, Some, None, option_and_then, option_map, find, fold, slice_get, IfSome, is_some, if◌then◌else◌, codes, refl, ap, sym}
+use Rattle.std.proofs.Common.{◌≡◌, ◌∙◌, ◌||◌, ◌++◌, Bool, true, false, not, List, [], ◌∷◌, Option, Some, None, option_and_then, option_map}
+use Rattle.std.proofs.Common.{find, fold, slice_get, IfSome, is_some, if◌then◌else◌, codes, refl, ap, sym}
 use Rattle.std.specs.List.{list_all}
 use Rattle.std.specs.Option.{option_or}
 use Rattle.std.specs.Str.{bytes_eq}
@@ -54,44 +55,53 @@ found_behind id (x ∷ rows) r = by (bytes_eq x.id id) (found_behind id rows r)
     by false e = e
 
 -- an id that has a row keeps it
-found_some : (id name : Text) (rows : List Row) (r : Row) → has_row name rows ≡ true → bytes_eq name id ≡ true → option_or (row_found id rows) (Some r) ≡ row_found id rows
+found_some : (id name : Text) (rows : List Row) (r : Row) → has_row name rows ≡ true → bytes_eq name id ≡ true
+    → option_or (row_found id rows) (Some r) ≡ row_found id rows
 found_some id name [] r there same = cc
 found_some id name (x ∷ rows) r there same = by (bytes_eq x.id id) refl (found_some id name rows r)
   where
-    by : (b : Bool) → bytes_eq x.id id ≡ b → (has_row name rows ≡ true → bytes_eq name id ≡ true → option_or (row_found id rows) (Some r) ≡ row_found id rows)
+    by : (b : Bool) → bytes_eq x.id id ≡ b → (has_row name rows ≡ true → bytes_eq name id ≡ true → option_or (row_found id rows) (Some r)
+        ≡ row_found id rows)
         → option_or (if b then Some x else row_found id rows) (Some r) ≡ (if b then Some x else row_found id rows)
     by true e rest = refl
     by false e rest =
         let apart : bytes_eq x.id name ≡ false = ap (bytes_eq x.id) (same_text name id same) ∙ e in
         let more : has_row name rows ≡ true = rw apart at there in rest more same
 
-found_default : (id name : Text) (rows : List Row) → row_found id (with_default rows (flag_made name)) ≡ option_or (row_found id rows) (if_named name id (default_row name))
+found_default : (id name : Text) (rows : List Row) → row_found id (with_default rows (flag_made name)) ≡ option_or (row_found id rows)
+    (if_named name id (default_row name))
 found_default id name rows = by (has_row name rows) refl
   where
-    named : (b : Bool) → bytes_eq name id ≡ b → has_row name rows ≡ true → row_found id rows ≡ option_or (row_found id rows) (if b then Some (default_row name) else None)
+    named : (b : Bool) → bytes_eq name id ≡ b → has_row name rows ≡ true → row_found id rows ≡ option_or (row_found id rows)
+        (if b then Some (default_row name) else None)
     named true e there = sym (found_some id name rows (default_row name) there e)
     named false e there = sym (or_none (row_found id rows))
 
     by : (b : Bool) → has_row name rows ≡ b
-        → row_found id (if b then rows else default_rows name (reading_by (flag_made name)) (codes "false" ∷ []) rows) ≡ option_or (row_found id rows) (if_named name id (default_row name))
+        → row_found id (if b then rows else default_rows name (reading_by (flag_made name)) (codes "false" ∷ []) rows)
+        ≡ option_or (row_found id rows) (if_named name id (default_row name))
     by true e = named (bytes_eq name id) refl e
-    by false e = ap (row_found id) (at_no_row name (more_values DefaultValue (codes "false" ∷ [])) (default_row name ∷ []) rows e) ∙ found_behind id rows (default_row name)
+    by false e = ap (row_found id) (at_no_row name (more_values DefaultValue (codes "false" ∷ [])) (default_row name ∷ []) rows e)
+        ∙ found_behind id rows (default_row name)
 
 no_default : (rows : List Row) (b : Bool) → (if b then rows else rows) ≡ rows
 no_default rows true = refl
 no_default rows false = refl
 
-found_after_flags : (id : Text) (fs : List Text) (rows : List Row) → row_found id (fold with_default rows (flag_rules fs)) ≡ option_or (row_found id rows) (default_found fs id)
+found_after_flags : (id : Text) (fs : List Text) (rows : List Row) → row_found id (fold with_default rows (flag_rules fs))
+    ≡ option_or (row_found id rows) (default_found fs id)
 found_after_flags id [] rows = ap (row_found id) (no_default rows (has_row source_name rows)) ∙ sym (or_none (row_found id rows))
 found_after_flags id (f ∷ fs) rows =
     found_after_flags id fs (with_default rows (flag_made f))
     ∙ ap (λ (o : Option Row). option_or o (default_found fs id)) (found_default id f rows)
     ∙ or_or (row_found id rows) (if_named f id (default_row f)) (default_found fs id)
 
-found_after : (id : Text) (vs fs : List Text) (rows : List Row) → row_found id (fold with_default rows (rules_by vs fs)) ≡ option_or (row_found id rows) (default_found fs id)
+found_after : (id : Text) (vs fs : List Text) (rows : List Row) → row_found id (fold with_default rows (rules_by vs fs))
+    ≡ option_or (row_found id rows) (default_found fs id)
 found_after id [] fs rows = found_after_flags id fs rows
 found_after id (v ∷ vs) fs rows =
-    ap (λ (rs : List Row). row_found id (fold with_default rs (rules_by vs fs))) (no_default rows (has_row v rows)) ∙ found_after id vs fs rows
+    ap (λ (rs : List Row). row_found id (fold with_default rs (rules_by vs fs))) (no_default rows (has_row v rows))
+    ∙ found_after id vs fs rows
 
 -- ---- the uses that are read are of the command's options, and none is a second
 
@@ -116,7 +126,8 @@ more_once (v ∷ us) u once new =
     (by (has v.0 us) (not-true (has v.0 us) parts.0) (bytes_eq u.0 v.0) refl here.0)
     (more_once us u parts.1 here.1)
   where
-    by : (a : Bool) → has v.0 us ≡ false → (b : Bool) → bytes_eq u.0 v.0 ≡ b → bytes_eq v.0 u.0 ≡ false → not (has v.0 (us ++ u ∷ [])) ≡ true
+    by : (a : Bool) → has v.0 us ≡ false → (b : Bool) → bytes_eq u.0 v.0 ≡ b → bytes_eq v.0 u.0 ≡ false → not (has v.0 (us ++ u ∷ []))
+        ≡ true
     by a e true f apart =
         let same : bytes_eq v.0 u.0 ≡ true = ap (bytes_eq v.0) (same_text u.0 v.0 f) ∙ self_text v.0 in
         let bad : true ≡ false = sym same ∙ apart in cc
@@ -135,31 +146,37 @@ abbrev ReadsGood : List Text → Type 0
 ReadsGood words = ((us : List Use) → AreGood us → IfSome (rest_of words us None) AreGood)
     × ((us : List Use) (name : Text) → is_one_of value_options name ≡ true → AreGood us → IfSome (rest_of words us (Some name)) AreGood)
 
-next_good : (words : List Text) → ReadsGood words → (us : List Use) (u : Use) → AreGood us → fits u ≡ true → IfSome (next_use (λ x. rest_of words x None) us u) AreGood
+next_good : (words : List Text) → ReadsGood words → (us : List Use) (u : Use) → AreGood us → fits u ≡ true
+    → IfSome (next_use (λ x. rest_of words x None) us u) AreGood
 next_good words rest us u good fit = by (has u.0 us) refl
   where
     by : (b : Bool) → has u.0 us ≡ b → IfSome (if b then None else rest_of words (us ++ u ∷ []) None) AreGood
     by true e = tt
     by false e = rest.0 (us ++ u ∷ []) (record { once = more_once us u good.once e; fit = more_fit us u good.fit fit })
 
-said_good : (words : List Text) → ReadsGood words → (us : List Use) (s : Said) → AreGood us → IfSome (read_said value_options flags (rest_of words) us s) AreGood
+said_good : (words : List Text) → ReadsGood words → (us : List Use) (s : Said) → AreGood us
+    → IfSome (read_said value_options flags (rest_of words) us s) AreGood
 said_good words rest us (other w) good = next_good words rest us (source_name, Some w) good refl
 said_good words rest us (option name (Some v)) good = by (is_one_of value_options name) refl
   where
-    by : (b : Bool) → is_one_of value_options name ≡ b → IfSome (if b then next_use (λ x. rest_of words x None) us (name, Some v) else None) AreGood
+    by : (b : Bool) → is_one_of value_options name ≡ b → IfSome (if b then next_use (λ x. rest_of words x None) us (name, Some v)
+        else None) AreGood
     by true e = next_good words rest us (name, Some v) good (or_left (is_one_of value_options name) (bytes_eq name source_name) e)
     by false e = tt
 said_good words rest us (option name None) good = by (is_one_of value_options name) refl (is_one_of flags name) refl
   where
     by : (b : Bool) → is_one_of value_options name ≡ b → (f : Bool) → is_one_of flags name ≡ f
-        → IfSome (if b then rest_of words us (Some name) else (if f then next_use (λ x. rest_of words x None) us (name, None) else None)) AreGood
+        → IfSome (if b then rest_of words us (Some name) else (if f then next_use (λ x. rest_of words x None) us (name, None) else None))
+        AreGood
     by true e f g = rest.1 us name e good
     by false e true g = next_good words rest us (name, None) good g
     by false e false g = tt
 
-value_good : (words : List Text) → ReadsGood words → (us : List Use) (name : Text) → is_one_of value_options name ≡ true → (s : Said) → AreGood us
+value_good : (words : List Text) → ReadsGood words → (us : List Use) (name : Text) → is_one_of value_options name ≡ true → (s : Said)
+    → AreGood us
     → IfSome (read_value (rest_of words) us name s) AreGood
-value_good words rest us name known (other w) good = next_good words rest us (name, Some w) good (or_left (is_one_of value_options name) (bytes_eq name source_name) known)
+value_good words rest us name known (other w) good = next_good words rest us (name, Some w) good
+    (or_left (is_one_of value_options name) (bytes_eq name source_name) known)
 value_good words rest us name known (option n v) good = tt
 
 pub reads_good : (words : List Text) → ReadsGood words
@@ -176,7 +193,8 @@ use_found id [] = refl
 use_found id (u ∷ us) = rw (id_by u.0 u.1) (by (bytes_eq u.0 id) (use_found id us))
   where
     by : (b : Bool) → row_found id (rows_by us) ≡ option_map row_of (find (λ x. bytes_eq x.0 id) us)
-        → (if b then Some (row_of u) else row_found id (rows_by us)) ≡ option_map row_of (if b then Some u else find (λ x. bytes_eq x.0 id) us)
+        → (if b then Some (row_of u) else row_found id (rows_by us)) ≡ option_map row_of
+        (if b then Some u else find (λ x. bytes_eq x.0 id) us)
     by true e = refl
     by false e = e
 
@@ -197,14 +215,17 @@ found_fits id (u ∷ us) fit =
     by false e rest fit_u = rest
 
 -- the value of an option or of the source
-pub value_read : (vs : List Text) (id : Text) (us : List Use) → list_all fits us ≡ true → is_one_of flags id ≡ false → default_found flags id ≡ None
+pub value_read : (vs : List Text) (id : Text) (us : List Use) → list_all fits us ≡ true → is_one_of flags id ≡ false
+    → default_found flags id ≡ None
     → first_of id (fold with_default (rows_by us) (rules_by vs flags)) ≡ value_of id us
 unfolding FoundFits
 value_read vs id us fit no_flag none =
-    ap (option_and_then (λ (r : Row). slice_get r.values 0)) (found_after id vs flags (rows_by us) ∙ ap (option_or (row_found id (rows_by us))) none ∙ or_none (row_found id (rows_by us)) ∙ use_found id us)
+    ap (option_and_then (λ (r : Row). slice_get r.values 0)) (found_after id vs flags (rows_by us)
+    ∙ ap (option_or (row_found id (rows_by us))) none ∙ or_none (row_found id (rows_by us)) ∙ use_found id us)
     ∙ by (find (λ u. bytes_eq u.0 id) us) (found_fits id us fit)
   where
-    by : (o : Option Use) → FoundFits id o → option_and_then (λ r. slice_get r.values 0) (option_map row_of o) ≡ option_and_then (λ u. u.1) o
+    by : (o : Option Use) → FoundFits id o → option_and_then (λ r. slice_get r.values 0) (option_map row_of o) ≡ option_and_then
+        (λ u. u.1) o
     by None h = refl
     by (Some u) h = of_use u.0 u.1 h.0 h.1
       where
@@ -222,15 +243,19 @@ has_found id (u ∷ us) = by (bytes_eq u.0 id) (has_found id us)
     by false e = e
 
 -- whether a flag stands
-pub flag_read : (vs : List Text) (id : Text) (us : List Use) → list_all fits us ≡ true → is_one_of value_options id || bytes_eq id source_name ≡ false
-    → default_found flags id ≡ Some (default_row id) → one_of id (fold with_default (rows_by us) (rules_by vs flags)) ≡ Some (flag_text (has id us))
+pub flag_read : (vs : List Text) (id : Text) (us : List Use) → list_all fits us ≡ true → is_one_of value_options id
+    || bytes_eq id source_name ≡ false
+    → default_found flags id ≡ Some (default_row id) → one_of id (fold with_default (rows_by us) (rules_by vs flags))
+    ≡ Some (flag_text (has id us))
 unfolding FoundFits
 flag_read vs id us fit no_value default =
-    ap (option_and_then row_text) (found_after id vs flags (rows_by us) ∙ ap (option_or (row_found id (rows_by us))) default ∙ ap (λ (o : Option Row). option_or o (Some (default_row id))) (use_found id us))
+    ap (option_and_then row_text) (found_after id vs flags (rows_by us) ∙ ap (option_or (row_found id (rows_by us))) default
+    ∙ ap (λ (o : Option Row). option_or o (Some (default_row id))) (use_found id us))
     ∙ by (find (λ u. bytes_eq u.0 id) us) (found_fits id us fit)
     ∙ ap (λ (b : Bool). Some (flag_text b)) (sym (has_found id us))
   where
-    by : (o : Option Use) → FoundFits id o → option_and_then row_text (option_or (option_map row_of o) (Some (default_row id))) ≡ Some (flag_text (is_some o))
+    by : (o : Option Use) → FoundFits id o → option_and_then row_text (option_or (option_map row_of o) (Some (default_row id)))
+        ≡ Some (flag_text (is_some o))
     by None h = refl
     by (Some u) h = of_use u.0 u.1 h.0 h.1
       where

@@ -7,5 +7,4 @@ pub mod Uses
 pub mod Agree
 pub mod Getters
 pub mod Result
-pub mod Numbers
 mod Worked

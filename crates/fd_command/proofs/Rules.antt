@@ -85,7 +85,8 @@ source_in_flags : (fs : List Text) → is_one_of fs source_name ≡ false → ar
 source_in_flags [] other = refl
 source_in_flags (f ∷ fs) other = by (bytes_eq f source_name) refl (source_in_flags fs)
   where
-    by : (b : Bool) → bytes_eq f source_name ≡ b → (is_one_of fs source_name ≡ false → arg_by_id (flag_rules fs) source_name ≡ Some source_made)
+    by : (b : Bool) → bytes_eq f source_name ≡ b → (is_one_of fs source_name ≡ false → arg_by_id (flag_rules fs) source_name
+        ≡ Some source_made)
         → arg_by_id (flag_rules (f ∷ fs)) source_name ≡ Some source_made
     by true e rest = let bad : true ≡ false = rw e at other in cc
     by false e rest = let more : is_one_of fs source_name ≡ false = rw e at other in rw e (rest more)

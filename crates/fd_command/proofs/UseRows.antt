@@ -1,5 +1,6 @@
 -- Uses as clap's rows.
-use Rattle.std.proofs.Common.{◌≡◌, ◌∙◌, ◌&&◌, ◌++◌, append-nil, Bool, true, false, List, [], ◌∷◌, Option, Some, None, if◌then◌else◌, codes, refl, ap, sym}
+use Rattle.std.proofs.Common.{◌≡◌, ◌∙◌, ◌&&◌, ◌++◌, append-nil, Bool, true, false, List, [], ◌∷◌, Option, Some, None, if◌then◌else◌, codes}
+use Rattle.std.proofs.Common.{refl, ap, sym}
 use Rattle.std.specs.Str.{bytes_eq}
 use Rattle.clap.specs.Walk.{Row, at_row, more_values, has_row, reading_by, without, used}
 use Rattle.clap.specs.Faults.{use_fault}
@@ -51,7 +52,8 @@ pub rows_append : (us : List Use) (u : Use) → rows_by (us ++ u ∷ []) ≡ row
 rows_append [] u = refl
 rows_append (v ∷ us) u = ap (λ (rs : List Row). row_of v ∷ rs) (rows_append us u)
 
-pub at_no_row : (name : Text) (change : Row → List Row) (missing rows : List Row) → has_row name rows ≡ false → at_row name change missing rows ≡ rows ++ missing
+pub at_no_row : (name : Text) (change : Row → List Row) (missing rows : List Row) → has_row name rows ≡ false
+    → at_row name change missing rows ≡ rows ++ missing
 at_no_row name change missing [] other = refl
 at_no_row name change missing (r ∷ rs) other = by (bytes_eq r.id name) refl (at_no_row name change missing rs)
   where
@@ -70,15 +72,19 @@ pub set_rows : (u : Use) (us : List Use) (change : Row → List Row) → has u.0
 set_rows u us change new =
     let none : has_row u.0 (rows_by us) ≡ false = has_rows u.0 us ∙ new in
     let gone : without u.0 (rows_by us) ≡ rows_by us = at_no_row u.0 (λ _. []) [] (rows_by us) none ∙ append-nil (rows_by us) in
-    ap (λ (rs : List Row). at_row u.0 change (row_of u ∷ []) rs) gone ∙ at_no_row u.0 change (row_of u ∷ []) (rows_by us) none ∙ sym (rows_append us u)
+    ap (λ (rs : List Row). at_row u.0 change (row_of u ∷ []) rs) gone ∙ at_no_row u.0 change (row_of u ∷ []) (rows_by us) none
+    ∙ sym (rows_append us u)
 
-pub used_value : (name value : Text) (us : List Use) → has name us ≡ false → used (value_made name) (value ∷ []) (rows_by us) ≡ rows_by (us ++ (name, Some value) ∷ [])
+pub used_value : (name value : Text) (us : List Use) → has name us ≡ false → used (value_made name) (value ∷ []) (rows_by us)
+    ≡ rows_by (us ++ (name, Some value) ∷ [])
 used_value name value us new = set_rows (name, Some value) us (more_values CommandLine (value ∷ [])) new
 
-pub used_source : (value : Text) (us : List Use) → has source_name us ≡ false → used source_made (value ∷ []) (rows_by us) ≡ rows_by (us ++ (source_name, Some value) ∷ [])
+pub used_source : (value : Text) (us : List Use) → has source_name us ≡ false → used source_made (value ∷ []) (rows_by us)
+    ≡ rows_by (us ++ (source_name, Some value) ∷ [])
 used_source value us new = set_rows (source_name, Some value) us (more_values CommandLine (value ∷ [])) new
 
-pub used_flag : (name : Text) (us : List Use) → has name us ≡ false → used (flag_made name) [] (rows_by us) ≡ rows_by (us ++ (name, None) ∷ [])
+pub used_flag : (name : Text) (us : List Use) → has name us ≡ false → used (flag_made name) [] (rows_by us)
+    ≡ rows_by (us ++ (name, None) ∷ [])
 used_flag name us new = set_rows (name, None) us (more_values CommandLine (codes "true" ∷ [])) new
 
 pub value_fault : (name value : Text) (us : List Use) → use_fault false (value_made name) (value ∷ []) (rows_by us) ≡ repeated (has name us)

@@ -1,9 +1,12 @@
 -- Uses that ask for nothing.
-use Rattle.std.proofs.Common.{◌≡◌, ◌∙◌, ◌&&◌, ◌||◌, ◌++◌, ◌==◌, inl, inr, ℕ, Bool, true, false, not, List, [], ◌∷◌, Option, Some, None, if◌then◌else◌, codes, refl, ap, sym, ◌-◌, ◌^◌, eqb-true}
+use Rattle.std.proofs.Common.{◌≡◌, ◌∙◌, ◌&&◌, ◌||◌, ◌++◌, ◌==◌, inl, inr, ℕ, Bool, true, false, not, List, [], ◌∷◌, Option, Some, None}
+use Rattle.std.proofs.Common.{if◌then◌else◌, codes, refl, ap, sym, ◌-◌, ◌^◌, eqb-true}
 use Rattle.std.specs.Str.{bytes_eq}
 use Rattle.fd_command.specs.Options.{Text, value_options, source_name}
 use Rattle.fd_command.specs.Uses.{Use, has, no_repeats, value_of}
-use Rattle.fd_command.specs.Asked.{AskedOrigin, asked_once, both, is_source, iterations_of, manner_by, manner_in, mesh_of, nodes_of, number_in, origin_in, origin_of, report_of, turns_of}
+use Rattle.fd_command.specs.Asked.{AskedOrigin, asked_once, both, iterations_of, manner_by, manner_in, mesh_of, nodes_of, origin_in}
+use Rattle.fd_command.specs.Asked.{origin_of, report_of, turns_of}
+use Rattle.fd_spell.specs.Spelled.{number_in, is_name}
 use Rattle.fd_command.specs.declared.request.Iterations.{Iterations}
 use Rattle.fd_command.specs.declared.request.Turns.{Turns}
 use Rattle.fd_command.proofs.Rules.{same_text, self_text}
@@ -57,7 +60,7 @@ dash_no_number low high [] e = cc
 dash_no_number low high (c ∷ []) e = let dash : c ≡ 45 = eqb-true c 45 e in rw dash refl
 dash_no_number low high (c ∷ d ∷ rest) e = let dash : c ≡ 45 = eqb-true c 45 e in rw dash refl
 
-dash_no_source : (value : Text) → is_dashed value ≡ true → is_source value ≡ false
+dash_no_source : (value : Text) → is_dashed value ≡ true → is_name value ≡ false
 dash_no_source [] e = refl
 dash_no_source (c ∷ rest) e = rw e refl
 
@@ -65,11 +68,13 @@ dash_no_iterations : (value : Text) → is_dashed value ≡ true → iterations_
 dash_no_iterations [] e = cc
 dash_no_iterations (c ∷ rest) e = let dash : c ≡ 45 = eqb-true c 45 e in rw dash refl
 
-no_turns : (nodes : Option ℕ) (iterations : Option Iterations) (report : Option Bool) (plain : Bool) → manner_by nodes None iterations report plain ≡ None
+no_turns : (nodes : Option ℕ) (iterations : Option Iterations) (report : Option Bool) (plain : Bool)
+    → manner_by nodes None iterations report plain ≡ None
 no_turns None iterations report plain = refl
 no_turns (Some nodes) iterations report plain = refl
 
-no_iterations : (nodes : Option ℕ) (turns : Option Turns) (report : Option Bool) (plain : Bool) → manner_by nodes turns None report plain ≡ None
+no_iterations : (nodes : Option ℕ) (turns : Option Turns) (report : Option Bool) (plain : Bool) → manner_by nodes turns None report plain
+    ≡ None
 no_iterations None turns report plain = refl
 no_iterations (Some nodes) None report plain = refl
 no_iterations (Some nodes) (Some turns) report plain = refl
@@ -82,7 +87,7 @@ no_seeded : (value : Text) (plain : Bool) → number_in 0 (2 ^ 32 - 1) value ≡
 no_seeded value true e = refl
 no_seeded value false e = rw e refl
 
-no_file : (value : Text) (seed size : Option Text) → is_source value ≡ false → origin_of (Some value) seed size ≡ None
+no_file : (value : Text) (seed size : Option Text) → is_name value ≡ false → origin_of (Some value) seed size ≡ None
 no_file value None None e = rw e refl
 no_file value None (Some size) e = refl
 no_file value (Some seed) size e = refl
@@ -133,13 +138,15 @@ module _ (us : List Use) (value : Text) (dash : is_dashed value ≡ true) where
       none = ap nodes_of e ∙ dash_no_number 1 16 value dash
 
   dash_turns : value_of (codes "turns") us ≡ Some value → asked_once us ≡ None
-  dash_turns e = by_manner (ap (λ (t : Option Turns). manner_by nodes t iterations report plain) none ∙ no_turns nodes iterations report plain)
+  dash_turns e = by_manner (ap (λ (t : Option Turns). manner_by nodes t iterations report plain) none
+      ∙ no_turns nodes iterations report plain)
     where
       none : turns_of (value_of (codes "turns") us) plain ≡ None
       none = ap (λ (o : Option Text). turns_of o plain) e ∙ no_seeded value plain (dash_no_number 0 (2 ^ 32 - 1) value dash)
 
   dash_iterations : value_of (codes "iterations") us ≡ Some value → asked_once us ≡ None
-  dash_iterations e = by_manner (ap (λ (i : Option Iterations). manner_by nodes turns i report plain) (ap iterations_of e ∙ dash_no_iterations value dash)
+  dash_iterations e = by_manner (ap (λ (i : Option Iterations). manner_by nodes turns i report plain) (ap iterations_of e
+      ∙ dash_no_iterations value dash)
       ∙ no_iterations nodes turns report plain)
 
   by_origin : origin_in us ≡ None → asked_once us ≡ None
@@ -163,13 +170,15 @@ module _ (us : List Use) (value : Text) (dash : is_dashed value ≡ true) where
 
   dash_value : (name : Text) → IsKnown value_options name → value_of name us ≡ Some value → asked_once us ≡ None
   dash_value name (inr e) v = dash_source (ap (λ (n : Text). value_of n us) (sym e) ∙ v)
-  dash_value name (inl known) v = by (bytes_eq (codes "nodes") name) refl (bytes_eq (codes "iterations") name) refl (bytes_eq (codes "mesh") name) refl
+  dash_value name (inl known) v = by (bytes_eq (codes "nodes") name) refl (bytes_eq (codes "iterations") name) refl
+      (bytes_eq (codes "mesh") name) refl
       (bytes_eq (codes "size") name) refl (bytes_eq (codes "turns") name) refl
     where
       is : (n : Text) → bytes_eq n name ≡ true → value_of n us ≡ Some value
       is n e = ap (λ (x : Text). value_of x us) (same_text n name e) ∙ v
 
-      by : (a : Bool) → bytes_eq (codes "nodes") name ≡ a → (i : Bool) → bytes_eq (codes "iterations") name ≡ i → (b : Bool) → bytes_eq (codes "mesh") name ≡ b
+      by : (a : Bool) → bytes_eq (codes "nodes") name ≡ a → (i : Bool) → bytes_eq (codes "iterations") name ≡ i → (b : Bool)
+          → bytes_eq (codes "mesh") name ≡ b
           → (d : Bool) → bytes_eq (codes "size") name ≡ d → (t : Bool) → bytes_eq (codes "turns") name ≡ t → asked_once us ≡ None
       by true e i k b f d g t h = dash_nodes (is (codes "nodes") e)
       by false e true k b f d g t h = dash_iterations (is (codes "iterations") k)
@@ -178,7 +187,8 @@ module _ (us : List Use) (value : Text) (dash : is_dashed value ≡ true) where
       by false e false k false f false g true h = dash_turns (is (codes "turns") h)
       by false e false k false f false g false h = let bad : false ≡ true = rw (e, k, f, g, h) at known in cc
 
-pub dash_asks_none : (us more : List Use) (name value : Text) → IsKnown value_options name → is_dashed value ≡ true → asked_once (us ++ (name, Some value) ∷ more) ≡ None
+pub dash_asks_none : (us more : List Use) (name value : Text) → IsKnown value_options name → is_dashed value ≡ true
+    → asked_once (us ++ (name, Some value) ∷ more) ≡ None
 dash_asks_none us more name value known dash = by (has name us) refl
   where
     by : (b : Bool) → has name us ≡ b → asked_once (us ++ (name, Some value) ∷ more) ≡ None

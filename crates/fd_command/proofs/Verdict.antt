@@ -1,5 +1,6 @@
 -- What clap makes of the words from a place of its walk on.
-use Rattle.std.proofs.Common.{◌≡◌, ◌∙◌, ◌⊎◌, ◌&&◌, ◌||◌, ◌++◌, inl, inr, ℕ, Bool, true, false, not, List, [], ◌∷◌, Option, Some, None, if◌then◌else◌, is_some, fold, refl, ap}
+use Rattle.std.proofs.Common.{◌≡◌, ◌∙◌, ◌⊎◌, ◌&&◌, ◌||◌, ◌++◌, inl, inr, ℕ, Bool, true, false, not, List, [], ◌∷◌, Option, Some, None}
+use Rattle.std.proofs.Common.{if◌then◌else◌, is_some, fold, refl, ap}
 use Rattle.std.specs.List.{list_any}
 use Rattle.clap.specs.Takes.{is_given}
 use Rattle.clap.specs.Walk.{Held, Row, Rule, Walk, Waiting, idle, option, finished, settled, settled_rows, walked, with_default, has_row}
@@ -84,7 +85,8 @@ unfolding verdict walk_fault
 stops c w word words bad = by (turn_fault (shape_by c) [] w word) bad
   where
     by : (ks : Kinds) → fails ks ≡ true
-        → verdict_at c (or_else ks (walk_fault (shape_by c) [] (walked c [] w word) words)) (fold (walked c []) (walked c [] w word) words) ≡ None
+        → verdict_at c (or_else ks (walk_fault (shape_by c) [] (walked c [] w word) words))
+        (fold (walked c []) (walked c [] w word) words) ≡ None
     by [] e = cc
     by (k ∷ ks) e = refl
 
@@ -150,7 +152,8 @@ unfolding verdict walk_fault
 ends_unsettled c us h w n bad = by (settle_fault c false h) bad
   where
     by : (a : Kinds) → fails a ≡ true
-        → verdict_by (or_else a (or_else (defaults_fault (settled c h).rows c) (check_fault (shape_by c) (finished c h) false))) (finished c h) ≡ None
+        → verdict_by (or_else a (or_else (defaults_fault (settled c h).rows c) (check_fault (shape_by c) (finished c h) false)))
+        (finished c h) ≡ None
     by [] e = cc
     by (k ∷ ks) e = refl
 

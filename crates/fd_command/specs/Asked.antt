@@ -1,8 +1,7 @@
 -- What the words of a command line ask for.
-use Rattle.std.specs.Prelude.{ℕ, ◌+◌, ◌-◌, ◌*◌, ◌^◌, ◌==◌, ◌&&◌, Bool, true, false, not, List, [], ◌∷◌, Option, Some, None, if◌then◌else◌, codes, fold, nat_le, option_and_then, option_map}
-use Rattle.std.specs.List.{list_all}
-use Rattle.std.specs.Char.{is_ascii_digit}
+use Rattle.std.specs.Prelude.{ℕ, ◌-◌, ◌^◌, Bool, true, false, List, Option, Some, None, if◌then◌else◌, codes, option_and_then, option_map}
 use Rattle.std.specs.Str.{bytes_eq}
+use Rattle.fd_spell.specs.Spelled.{number_in, is_name}
 use Rattle.fd_command.specs.Options.{Text, source_name}
 use Rattle.fd_command.specs.Uses.{Use, uses_of, value_of, has, no_repeats}
 use Rattle.fd_command.specs.declared.request.Iterations.{Iterations}
@@ -20,28 +19,8 @@ pub record Asked : Type 0 where
   pub origin : AskedOrigin
   pub manner : Manner
 
--- decimal digits without needless zeros
-abbrev pub is_canonical : Text → Bool
-is_canonical [] = false
-is_canonical (d ∷ []) = is_ascii_digit d
-is_canonical (d ∷ e ∷ rest) = not (d == 48) && list_all is_ascii_digit (d ∷ e ∷ rest)
-
-abbrev pub number_of : Text → ℕ
-number_of digits = fold (λ n c. n * 10 + (c - 48)) 0 digits
-
--- the number from `low` to `high` that a text writes
-abbrev pub number_in : ℕ → ℕ → Text → Option ℕ
-number_in low high text =
-    if is_canonical text && (nat_le low (number_of text) && nat_le (number_of text) high)
-    then Some (number_of text) else None
-
--- a source isn't empty and doesn't begin with a dash
-abbrev pub is_source : Text → Bool
-is_source [] = false
-is_source (c ∷ rest) = not (c == 45)
-
 abbrev pub file_of : Text → Option AskedOrigin
-file_of source = if is_source source then Some (file source) else None
+file_of source = if is_name source then Some (file source) else None
 
 abbrev pub mesh_of : Option ℕ → Option ℕ → Option AskedOrigin
 mesh_of (Some seed) (Some size) = Some (mesh seed size)
@@ -92,7 +71,8 @@ manner_by None turns iterations report plain = None
 
 -- by the nodes, the turns and the iterations, and whether `--report` and `--plain` stand
 abbrev pub manner_of : Option Text → Option Text → Option Text → Bool → Bool → Option Manner
-manner_of nodes turns iterations report plain = manner_by (nodes_of nodes) (turns_of turns plain) (iterations_of iterations) (report_of report plain) plain
+manner_of nodes turns iterations report plain = manner_by (nodes_of nodes) (turns_of turns plain) (iterations_of iterations)
+    (report_of report plain) plain
 
 abbrev pub both : Option AskedOrigin → Option Manner → Option Asked
 both (Some origin) (Some manner) = Some (record { origin = origin; manner = manner })
@@ -106,7 +86,8 @@ origin_in uses = origin_of (value_of source_name uses) (value_of (codes "mesh") 
 -- how uses say that it runs
 abbrev pub manner_in : List Use → Option Manner
 manner_in uses =
-    manner_of (value_of (codes "nodes") uses) (value_of (codes "turns") uses) (value_of (codes "iterations") uses) (has (codes "report") uses) (has (codes "plain") uses)
+    manner_of (value_of (codes "nodes") uses) (value_of (codes "turns") uses) (value_of (codes "iterations") uses)
+    (has (codes "report") uses) (has (codes "plain") uses)
 
 -- what uses ask for, where no name is used twice
 abbrev pub asked_once : List Use → Option Asked

@@ -10,4 +10,5 @@ origin_by rows = origin_of (first_of source_name rows) (first_of (codes "mesh") 
 
 -- where it is known whether `--report` and `--plain` stand
 abbrev pub manner_with : List Row → Bool → Bool → Option Manner
-manner_with rows report plain = manner_of (first_of (codes "nodes") rows) (first_of (codes "turns") rows) (first_of (codes "iterations") rows) report plain
+manner_with rows report plain = manner_of (first_of (codes "nodes") rows) (first_of (codes "turns") rows)
+    (first_of (codes "iterations") rows) report plain

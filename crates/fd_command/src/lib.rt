@@ -5,7 +5,6 @@
 #![tactic(auto)]
 
 mod command;
-mod number;
 mod request;
 
 pub use request::{Iterations, Manner, Origin, Refused, Request, Turns, requested};

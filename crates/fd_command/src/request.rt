@@ -1,15 +1,17 @@
 ghost use Rattle.std.specs.Prelude.{◌≡◌, ◌≤◌, ◌-◌, ◌^◌, IfOk, IfSome, Bool, Err, None, Some, codes, map, option_map, string_bytes};
 ghost use Rattle.std.specs.List.{list_all};
 ghost use Rattle.clap.specs.Words.{found_of, one_of, rows_of};
-ghost use Rattle.fd_command.specs.Asked.{asked, both, is_source, file_of, iterations_named, iterations_of, manner_of, nodes_of, number_in, origin_of, report_of, turns_of};
+ghost use Rattle.fd_command.specs.Asked.{asked, both, file_of, iterations_named, iterations_of, manner_of, nodes_of, origin_of, report_of};
+ghost use Rattle.fd_command.specs.Asked.{turns_of};
+ghost use Rattle.fd_spell.specs.Spelled.{number_in};
 ghost use Rattle.fd_command.specs.declared.request.Turns.TheVariants as Turns;
 ghost use Rattle.fd_command.specs.ClapCommand.{flag_text, is_clear};
 ghost use Rattle.fd_command.specs.ClapRows.{manner_with, origin_by};
 ghost use Rattle.fd_command.specs.Shown.{HasMeshInRange, shown, shown_origin};
 
 use crate::command::parsed;
-use crate::number::number;
 use clap::ArgMatches;
+use fd_spell::{is_name, number};
 use std::alloc::Global;
 
 /// Where the program comes from.
@@ -68,16 +70,6 @@ pub enum Refused {
     NotTaken,
     /// Memory is wanting.
     Memory,
-}
-
-/// Whether a word names a source: it isn't empty and doesn't begin with a dash.
-fn is_source(word: &str) -> bool
-    ensures { result ≡ is_source word.now }
-{
-    match word.as_bytes() {
-        [] => false,
-        [first, ..] => *first != b'-',
-    }
 }
 
 /// Whether clap is handed a word: it isn't `--`, and doesn't begin with one dash.
@@ -176,7 +168,8 @@ fn manner_of(
     report: bool,
     plain: bool,
 ) -> Option<Manner>
-    ensures manner { result ≡ manner_of (option_map (λ s. s.now) nodes.entry) (option_map (λ s. s.now) turns.entry) (option_map (λ s. s.now) iterations.entry) report plain }
+    ensures manner { result ≡ manner_of (option_map (λ s. s.now) nodes.entry) (option_map (λ s. s.now) turns.entry)
+        (option_map (λ s. s.now) iterations.entry) report plain }
     ensures some_nodes { IfSome result (λ m. 1 ≤ m.nodes) }
     ensures few_nodes { IfSome result (λ m. m.nodes ≤ 16) }
 {
@@ -197,7 +190,7 @@ fn manner_of(
 fn file_of<'a>(source: &'a str) -> Option<Origin<'a>>
     ensures { option_map shown_origin result ≡ file_of source.entry.now }
 {
-    if is_source(source) {
+    if is_name(source) {
         Some(Origin::File(source))
     } else {
         None
@@ -235,7 +228,8 @@ fn origin_of<'a>(
 fn read<'a>(matches: &ArgMatches<'a>) -> Option<Request<'a>>
     ensures asked { (report plain : Bool) → one_of (codes "report") (rows_of (found_of matches.now)) ≡ Some (flag_text report)
         → one_of (codes "plain") (rows_of (found_of matches.now)) ≡ Some (flag_text plain)
-        → option_map shown result ≡ both (origin_by (rows_of (found_of matches.now))) (manner_with (rows_of (found_of matches.now)) report plain) }
+        → option_map shown result ≡ both (origin_by (rows_of (found_of matches.now)))
+        (manner_with (rows_of (found_of matches.now)) report plain) }
     ensures some_nodes { IfSome result (λ r. 1 ≤ r.manner.nodes) }
     ensures few_nodes { IfSome result (λ r. r.manner.nodes ≤ 16) }
     ensures range { IfSome result (λ r. HasMeshInRange r.origin) }

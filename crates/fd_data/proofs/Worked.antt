@@ -13,7 +13,8 @@ text first second third = first ++ 10 ∷ second ++ 10 ∷ third ++ 10 ∷ []
 abbrev Numbers : Type 0
 Numbers = Result (List ℤ) DataFault
 
-pub a_sign_and_blanks : ◌≡◌ {A = Numbers} (data_of (text (codes "2") (codes " +7") (9 ∷ codes "-1 ")) 3) (Ok (pos 2 ∷ pos 7 ∷ negsuc 0 ∷ []))
+pub a_sign_and_blanks : ◌≡◌ {A = Numbers} (data_of (text (codes "2") (codes " +7") (9 ∷ codes "-1 ")) 3)
+    (Ok (pos 2 ∷ pos 7 ∷ negsuc 0 ∷ []))
 unfolding csv_on_literals
 a_sign_and_blanks = refl
 

@@ -6,8 +6,8 @@ ghost use Rattle.fd_grammar.specs.Machine.{Then, AfterName, ExprFactor, ExprTerm
 use crate::parser::Parser;
 use crate::stop::Stop;
 use fd_grammar::{Mark, Sort, opens, sign_of, sort_of, times_of};
-use fd_syntax::{Arith, Expr};
-use fd_words::{Name, SourcePlace};
+use fd_syntax::Expr;
+use fd_words::{Arith, Name, SourcePlace};
 use sqlite_items::Boxed;
 use std::alloc::AllocError;
 

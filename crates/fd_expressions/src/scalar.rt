@@ -3,13 +3,14 @@ ghost use Rattle.fd_syntax.specs.declared.scalar.Scalar.{Scalar};
 ghost use Rattle.fd_syntax.specs.declared.scalar.Scalar.TheVariants.{Binary};
 ghost use Rattle.fd_syntax.specs.declared.expr.Expr.{Expr};
 ghost use Rattle.fd_expressions.specs.Reads.{Reads};
-ghost use Rattle.fd_grammar.specs.Machine.{State, Calm, run, Then, ScalarFactor, ScalarTerm, WholeScalar, PlacedScalar, SignedScalar, WholeExpr, SignedExpr, MoreScalarFactors, MoreScalarTerms, MoreOffset, Offset, signed};
+ghost use Rattle.fd_grammar.specs.Machine.{State, Calm, run, Then, ScalarFactor, ScalarTerm, WholeScalar, PlacedScalar, SignedScalar};
+ghost use Rattle.fd_grammar.specs.Machine.{WholeExpr, SignedExpr, MoreScalarFactors, MoreScalarTerms, MoreOffset, Offset, signed};
 
 use crate::parser::Parser;
 use crate::stop::Stop;
 use fd_grammar::{Mark, Sort, sign_of, sort_of, times_of};
-use fd_syntax::{Arith, Scalar};
-use fd_words::SourcePlace;
+use fd_syntax::Scalar;
+use fd_words::{Arith, SourcePlace};
 use sqlite_items::Boxed;
 use std::alloc::AllocError;
 
@@ -48,7 +49,8 @@ impl Parser<'_> {
     pub(crate) fn lead(&mut self) -> Option<SourcePlace>
         ensures shrinks { length self.new.rest.now ≤ length self.old.rest.now }
         ensures scalar { (k : Scalar → Calm) → run self.old.rest.now (WholeScalar k) ≡ run self.new.rest.now (SignedScalar k result) }
-        ensures expr { (index : List ℕ) (k : Expr → Calm) → run self.old.rest.now (WholeExpr index k) ≡ run self.new.rest.now (SignedExpr index k result) }
+        ensures expr { (index : List ℕ) (k : Expr → Calm) → run self.old.rest.now (WholeExpr index k) ≡ run self.new.rest.now
+            (SignedExpr index k result) }
     {
         let [token, rest @ ..] = self.rest else {
             return None;

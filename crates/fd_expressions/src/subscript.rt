@@ -9,8 +9,8 @@ ghost use Rattle.fd_grammar.specs.Machine.{Calm, run, Then, InSubscript, AfterSu
 use crate::parser::Parser;
 use crate::stop::Stop;
 use fd_grammar::{Mark, is_word, name_of, opens, sign_of, sort_of};
-use fd_syntax::{Arith, Element, Scalar, Subscript, Term, Terms};
-use fd_words::{Name, SourcePlace};
+use fd_syntax::{Element, Scalar, Subscript, Term, Terms};
+use fd_words::{Arith, Name, SourcePlace};
 use sqlite_items::Items;
 
 /// What a subscript begins with: the index, another name, or something else, which isn't taken.
@@ -63,7 +63,8 @@ impl Parser<'_> {
     /// Takes a name.
     fn begin_subscript(&mut self, index: Name) -> Start
         ensures shrinks { length self.new.rest.now ≤ length self.old.rest.now }
-        ensures reads { (k : Subscript → Calm) → run self.old.rest.now (InSubscript index k) ≡ run self.new.rest.now (BegunSubscript index result k) }
+        ensures reads { (k : Subscript → Calm) → run self.old.rest.now (InSubscript index k) ≡ run self.new.rest.now
+            (BegunSubscript index result k) }
     {
         let [token, rest @ ..] = self.rest else {
             return Start::Other;
@@ -89,7 +90,8 @@ impl Parser<'_> {
         at: SourcePlace,
     ) -> Result<Subscript, Stop>
         ensures shrinks { length self.new.rest.now ≤ length self.old.rest.now }
-        ensures reads { Reads (λ k. Then (AfterSubscriptName index name at k)) (λ x k. Then (k x)) self.old.rest.now self.new.rest.now result }
+        ensures reads { Reads (λ k. Then (AfterSubscriptName index name at k)) (λ x k. Then (k x)) self.old.rest.now self.new.rest.now
+            result }
     {
         if self.opened() {
             let subscript = self.through(index, name, at)?;
@@ -104,7 +106,9 @@ impl Parser<'_> {
     /// Takes an opening parenthesis, if one follows.
     pub fn opened(&mut self) -> bool
         ensures shrinks { length self.new.rest.now ≤ length self.old.rest.now }
-        ensures subscript { (index name : List ℕ) (at : SourcePlace) (k : Subscript → Calm) → run self.old.rest.now (Then (AfterSubscriptName index name at k)) ≡ run self.new.rest.now (OpenedSubscript result index name at k) }
+        ensures subscript { (index name : List ℕ) (at : SourcePlace) (k : Subscript → Calm)
+            → run self.old.rest.now (Then (AfterSubscriptName index name at k)) ≡ run self.new.rest.now
+            (OpenedSubscript result index name at k) }
         ensures cyclic { (k : Form → Calm) → run self.old.rest.now (Then (AfterCyclic k)) ≡ run self.new.rest.now (OpenedCyclic result k) }
     {
         match self.rest {

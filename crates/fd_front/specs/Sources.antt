@@ -35,9 +35,12 @@ pub record IsSource (text : List ℕ) (s : Source) : Type 0 where
 -- the first fault of a text: of its tokens, or else of their grammar, or else of the program, or else on the way through its steps
 pub data IsSourceFault (text : List ℕ) : SourceFault → Type 0 where
   in_tokens : (fault : SourceFault) → HasFault text fault → IsSourceFault text fault
-  in_grammar : (fault : SourceFault) (list : TokenList) → Spells text list → IsFault list.tokens list.end fault.at fault.cause → IsSourceFault text fault
-  in_program : (fault : SourceFault) (list : TokenList) (program : Program) → IsSpelled text list program → IsAnswer program (Err (stop.Fault fault)) → IsSourceFault text fault
-  in_steps : (fault : SourceFault) (list : TokenList) (program : Program) (checked : Checked) → IsSpelled text list program → IsAnswer program (Ok checked)
+  in_grammar : (fault : SourceFault) (list : TokenList) → Spells text list → IsFault list.tokens list.end fault.at fault.cause
+      → IsSourceFault text fault
+  in_program : (fault : SourceFault) (list : TokenList) (program : Program) → IsSpelled text list program
+      → IsAnswer program (Err (stop.Fault fault)) → IsSourceFault text fault
+  in_steps : (fault : SourceFault) (list : TokenList) (program : Program) (checked : Checked) → IsSpelled text list program
+      → IsAnswer program (Ok checked)
       → IsUnrolled checked (Err (stop.Fault fault)) → IsSourceFault text fault
 
 -- the source that the text is, or its first fault; want of memory alone is free
@@ -62,7 +65,8 @@ pub record AreResolved (program : Program) (c : Checked) (steps : List Step) : T
 -- the fault of a program, or on the way through its steps
 pub data IsProgramFault (program : Program) : SourceFault → Type 0 where
   in_names : (fault : SourceFault) → IsAnswer program (Err (stop.Fault fault)) → IsProgramFault program fault
-  on_the_way : (fault : SourceFault) (checked : Checked) → IsAnswer program (Ok checked) → IsUnrolled checked (Err (stop.Fault fault)) → IsProgramFault program fault
+  on_the_way : (fault : SourceFault) (checked : Checked) → IsAnswer program (Ok checked) → IsUnrolled checked (Err (stop.Fault fault))
+      → IsProgramFault program fault
 
 abbrev pub IsResolved : Program → Result (Checked × List Step) SourceStop → Type 0
 IsResolved program (Ok found) = AreResolved program found.0 found.1

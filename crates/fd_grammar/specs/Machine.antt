@@ -6,8 +6,8 @@ use Rattle.fd_words.specs.declared.combine.Combine.{Combine}
 use Rattle.fd_words.specs.declared.combine.Combine.TheVariants.{Add, Min, Max}
 use Rattle.fd_lexer.specs.declared.token.TokenKind.{TokenKind}
 use Rattle.fd_lexer.specs.declared.token.Token.{Token}
-use Rattle.fd_syntax.specs.declared.scalar.Arith.{Arith}
-use Rattle.fd_syntax.specs.declared.scalar.Arith.TheVariants.{Minus}
+use Rattle.fd_words.specs.declared.arith.Arith.{Arith}
+use Rattle.fd_words.specs.declared.arith.Arith.TheVariants.{Minus}
 use Rattle.fd_syntax.specs.declared.scalar.Scalar.{Scalar}
 use Rattle.fd_syntax.specs.declared.scalar.Scalar.TheVariants as scalar
 use Rattle.fd_syntax.specs.declared.scalar.Term.{Term}
@@ -150,7 +150,8 @@ step_lead k at next (Some _) = Some (k None)
 step_lead k at next None = next
 
 abbrev pub step_whole_scalar : (Scalar → Calm) → Sort → SourcePlace → Option State
-step_whole_scalar k c at = step_lead (SignedScalar k) at (step_scalar_factor (λ x. MoreScalarFactors x (λ y. MoreScalarTerms y k)) c at) (sign_of c)
+step_whole_scalar k c at = step_lead (SignedScalar k) at (step_scalar_factor (λ x. MoreScalarFactors x (λ y. MoreScalarTerms y k)) c at)
+    (sign_of c)
 
 -- an operator goes on with the phrase; whatever else comes is for the next phrase
 abbrev pub step_scalar_factors : Scalar → (Scalar → Calm) → SourcePlace → Option State → Option Arith → Option State
@@ -183,7 +184,8 @@ step_subscript index k at next false (Some name) = Some (Then (AfterSubscriptNam
 step_subscript index k at next false None = next
 
 abbrev pub step_after_subscript_name : (index name : List ℕ) → SourcePlace → (Subscript → Calm) → Option State → Bool → Option State
-step_after_subscript_name index name at k next true = Some (SameName index (Then (Offset (λ inside. Want mark.Close (Then (Offset (λ add. k (subscript.Through name at inside add))))))))
+step_after_subscript_name index name at k next true =
+    Some (SameName index (Then (Offset (λ inside. Want mark.Close (Then (Offset (λ add. k (subscript.Through name at inside add))))))))
 step_after_subscript_name index name at k next false = next
 
 -- elements and expressions
@@ -259,10 +261,13 @@ abbrev pub DecompositionRest : (Declaration → State) → State
 DecompositionRest k = InItems SizedItem (λ xs. k (declaration.Decomposition xs))
 
 abbrev pub AlignTarget : (dummy : List ℕ) → List Listed → (Declaration → State) → State
-AlignTarget dummy xs k = AnyName (λ n. Take fixed.Open (SameName dummy (Then (Offset (λ add. Want mark.Close (wanted mark.Line (k (declaration.Align xs dummy n.name n.at add))))))))
+AlignTarget dummy xs k = AnyName
+    (λ n. Take fixed.Open (SameName dummy
+    (Then (Offset (λ add. Want mark.Close (wanted mark.Line (k (declaration.Align xs dummy n.name n.at add))))))))
 
 abbrev pub AlignRest : (Declaration → State) → State
-AlignRest k = AnyName (λ n. Take fixed.Open (AnyName (λ d. wanted mark.Close (Then (MoreItems (AlignedItem d.name) (n ∷ []) (λ xs. AlignTarget d.name xs k))))))
+AlignRest k = AnyName (λ n. Take fixed.Open
+    (AnyName (λ d. wanted mark.Close (Then (MoreItems (AlignedItem d.name) (n ∷ []) (λ xs. AlignTarget d.name xs k))))))
 
 abbrev pub ReadRest : (Declaration → State) → State
 ReadRest k = InItems ListedItem (λ xs. k (declaration.Read xs))
@@ -283,7 +288,8 @@ step_after_cyclic k next true = Some (PlacedScalar (λ at x. Want mark.Close (Th
 step_after_cyclic k next false = next
 
 abbrev pub DistributeRest : SourcePlace → (Statement → State) → State
-DistributeRest at k = AnyName (λ n. Take fixed.Open (InForm (λ f. Want mark.Close (wanted mark.Line (k (statement.Distribute at n.name n.at f))))))
+DistributeRest at k = AnyName (λ n. Take fixed.Open
+    (InForm (λ f. Want mark.Close (wanted mark.Line (k (statement.Distribute at n.name n.at f))))))
 
 abbrev pub PrintRest : SourcePlace → (Statement → State) → State
 PrintRest at k = AnyName (λ n. wanted mark.Line (k (statement.Print at n.name n.at)))
@@ -316,10 +322,13 @@ step_operator k sort.MaxWord = Some (k Max)
 step_operator k _ = None
 
 abbrev pub AssignRest : (index name : List ℕ) → SourcePlace → (BodyStatement → State) → State
-AssignRest index name at k = Take fixed.Open (InElement index name at (λ e. wanted mark.Equals (WholeExpr index (λ x. Want mark.Line (k (inner.Assign e x))))))
+AssignRest index name at k = Take fixed.Open
+    (InElement index name at (λ e. wanted mark.Equals (WholeExpr index (λ x. Want mark.Line (k (inner.Assign e x))))))
 
 abbrev pub ReduceTarget : (index : List ℕ) → Combine → (BodyStatement → State) → State
-ReduceTarget index op k = AnyName (λ n. Take fixed.Open (InElement index n.name n.at (λ e. wanted mark.Comma (WholeExpr index (λ x. Want mark.Close (wanted mark.Line (k (inner.Reduce op e x))))))))
+ReduceTarget index op k = AnyName
+    (λ n. Take fixed.Open (InElement index n.name n.at
+    (λ e. wanted mark.Comma (WholeExpr index (λ x. Want mark.Close (wanted mark.Line (k (inner.Reduce op e x))))))))
 
 abbrev pub ReduceRest : (index : List ℕ) → (BodyStatement → State) → State
 ReduceRest index k = Take fixed.Open (Operator (λ op. wanted mark.Comma (ReduceTarget index op k)))
@@ -339,7 +348,8 @@ inner_opening_of sort.ReduceWord = Some within.Reduces
 inner_opening_of _ = None
 
 -- `again` is the state behind a line end, `with` the one behind a statement
-abbrev pub step_inner : (index : List ℕ) → (again : State) → (BodyStatement → State) → SourcePlace → Option State → Option InnerOpening → Option State
+abbrev pub step_inner : (index : List ℕ) → (again : State) → (BodyStatement → State) → SourcePlace → Option State → Option InnerOpening
+    → Option State
 step_inner index again k at next (Some within.Blank) = Some again
 step_inner index again k at next (Some (within.Assigns name)) = Some (AssignRest index name at k)
 step_inner index again k at next (Some within.Reduces) = Some (ReduceRest index k)
@@ -372,7 +382,8 @@ heading_of sort.OutputWord = Some heading.Outputs
 heading_of sort.DistributeWord = Some heading.Distributes
 heading_of _ = None
 
-abbrev pub step_head : List Declaration → List Statement → (List Declaration → List Statement → State) → SourcePlace → Option State → Option Heading → Option State
+abbrev pub step_head : List Declaration → List Statement → (List Declaration → List Statement → State) → SourcePlace → Option State
+    → Option Heading → Option State
 step_head ds ss k at next (Some heading.Blank) = Some (Head ds ss k)
 step_head ds ss k at next (Some heading.Parameters) = Some (ParameterRest (λ d. Head (ds ++ d ∷ []) ss k))
 step_head ds ss k at next (Some heading.Integers) = Some (IntegerRest (λ d. Head (ds ++ d ∷ []) ss k))
@@ -403,7 +414,8 @@ step_calm (AfterName index name place k) c at = step_after_name index name place
 step_calm (AfterSubscriptName index name place k) c at =
     step_after_subscript_name index name place k
     (step_scalar_factors (scalar.Named name place) (λ y. MoreScalarTerms y (λ x. k (subscript.Scalar x))) at
-    (step_scalar_terms (scalar.Named name place) (λ x. k (subscript.Scalar x)) at (step_calm (k (subscript.Scalar (scalar.Named name place))) c at) (sign_of c))
+    (step_scalar_terms (scalar.Named name place) (λ x. k (subscript.Scalar x)) at
+    (step_calm (k (subscript.Scalar (scalar.Named name place))) c at) (sign_of c))
     (times_of c))
     (opens c)
 step_calm (MoreOffset ts k) c at = step_offset ts k at (step_calm (k ts) c at) (sign_of c)
@@ -416,18 +428,22 @@ step (ScalarFactor k) t c at = step_scalar_factor k c at
 step (WholeScalar k) t c at = step_whole_scalar k c at
 step (PlacedScalar k) t c at = step_whole_scalar (k at) c at
 step (ExprFactor index k) t c at = step_expr_factor index k c at
-step (WholeExpr index k) t c at = step_lead (SignedExpr index k) at (step_expr_factor index (λ x. MoreExprFactors index x (λ y. MoreExprTerms index y k)) c at) (sign_of c)
-step (InSubscript index k) t c at = step_subscript index k at (step_whole_scalar (λ x. k (subscript.Scalar x)) c at) (is_word index t) (name_of c)
+step (WholeExpr index k) t c at = step_lead (SignedExpr index k) at
+    (step_expr_factor index (λ x. MoreExprFactors index x (λ y. MoreExprTerms index y k)) c at) (sign_of c)
+step (InSubscript index k) t c at = step_subscript index k at (step_whole_scalar (λ x. k (subscript.Scalar x)) c at) (is_word index t)
+    (name_of c)
 step (AnyName k) t c at = step_name k at (name_of c)
 step (SameName name s) t c at = step_want (is_word name t) s
 step (Take f s) t c at = step_want (is_fixed f c) s
 step (InForm k) t c at = step_form k c at
 step (Operator k) t c at = step_operator k c
-step (Head ds ss k) t c at = step_head ds ss k at (step_body EndOfProgram ss (k ds) at (step_close EndOfProgram (k ds ss) c) (opening_of c)) (heading_of c)
+step (Head ds ss k) t c at = step_head ds ss k at (step_body EndOfProgram ss (k ds) at (step_close EndOfProgram (k ds ss) c)
+    (opening_of c)) (heading_of c)
 step (Body closer ss k) t c at = step_body closer ss k at (step_close closer (k ss) c) (opening_of c)
 step (Close closer s) t c at = step_close closer s c
 step (FirstInner index k) t c at = step_inner index (FirstInner index k) (λ s. MoreInner index (s ∷ []) k) at None (inner_opening_of c)
-step (MoreInner index xs k) t c at = step_inner index (MoreInner index xs k) (λ s. MoreInner index (xs ++ s ∷ []) k) at (step_close EndOfForall (k xs) c) (inner_opening_of c)
+step (MoreInner index xs k) t c at = step_inner index (MoreInner index xs k) (λ s. MoreInner index (xs ++ s ∷ []) k) at
+    (step_close EndOfForall (k xs) c) (inner_opening_of c)
 step (Begin s) t c at = step_begin s c
 step (Ended p) t c at = step_ended p c
 step (Then calm) t c at = step_calm calm c at

@@ -1,12 +1,13 @@
 -- What a test of a token says of it, and what each state of the machine means by the grammar.
-use Rattle.std.proofs.Common.{◌≡◌, ℕ, pos, true, List, [], ◌∷◌, ◌++◌, Option, Some, None, refl, ap, sym, ◌∙◌, subst, append_assoc, append-nil}
+use Rattle.std.proofs.Common.{◌≡◌, ℕ, pos, true, List, [], ◌∷◌, ◌++◌, Option, Some, None, refl, ap, sym, ◌∙◌, subst, append_assoc}
+use Rattle.std.proofs.Common.{append-nil}
 use Rattle.std.specs.Prelude.{if◌then◌else◌}
 use Rattle.std.proofs.lemmas.Bool.Decides.{Decides-int_eq}
 use Rattle.fd_words.specs.declared.source.SourcePlace.{SourcePlace}
 use Rattle.fd_words.specs.declared.combine.Combine.{Combine}
 use Rattle.fd_lexer.specs.declared.token.Token.{Token}
-use Rattle.fd_syntax.specs.declared.scalar.Arith.{Arith}
-use Rattle.fd_syntax.specs.declared.scalar.Arith.TheVariants.{Plus, Minus, Times}
+use Rattle.fd_words.specs.declared.arith.Arith.{Arith}
+use Rattle.fd_words.specs.declared.arith.Arith.TheVariants.{Plus, Minus, Times}
 use Rattle.fd_syntax.specs.declared.scalar.Scalar.{Scalar}
 use Rattle.fd_syntax.specs.declared.expr.Subscript.{Subscript}
 use Rattle.fd_syntax.specs.declared.expr.Expr.{Expr}
@@ -29,8 +30,14 @@ use Rattle.fd_grammar.specs.declared.opening.Opening.TheVariants as opening
 use Rattle.fd_grammar.specs.declared.opening.InnerOpening.{InnerOpening}
 use Rattle.fd_grammar.specs.declared.opening.InnerOpening.TheVariants as within
 use Rattle.fd_grammar.specs.Sorts.{reserved, name_of, sign_of, times_of, opens}
-use Rattle.fd_grammar.specs.Machine.{Closer, EndOfProgram, EndOfDo, EndOfForall, mark_of, State, Calm, ScalarFactor, WholeScalar, PlacedScalar, ExprFactor, WholeExpr, InSubscript, AnyName, SameName, Take, InForm, Operator, Head, Body, Close, FirstInner, MoreInner, Begin, Ended, Then, MoreScalarFactors, MoreScalarTerms, MoreExprFactors, MoreExprTerms, AfterName, AfterSubscriptName, MoreOffset, AfterCyclic, MoreItems, Want, inner_opening_of, opening_of, heading_of, is_mark, is_fixed}
-use Rattle.fd_grammar.specs.Grammar.{Is, IsAgain, AreLines, AreListed, IsScalar, IsScalarTerm, IsScalarFactor, IsOffset, IsSubscript, IsExpr, IsExprTerm, IsExprFactor, IsForm, IsHead, IsOperator, AreInner, IsDoEnd, IsForallEnd, IsBody, program}
+use Rattle.fd_grammar.specs.Machine.{Closer, EndOfProgram, EndOfDo, EndOfForall, mark_of, State, Calm, ScalarFactor, WholeScalar}
+use Rattle.fd_grammar.specs.Machine.{PlacedScalar, ExprFactor, WholeExpr, InSubscript, AnyName, SameName, Take, InForm, Operator, Head}
+use Rattle.fd_grammar.specs.Machine.{Body, Close, FirstInner, MoreInner, Begin, Ended, Then, MoreScalarFactors, MoreScalarTerms}
+use Rattle.fd_grammar.specs.Machine.{MoreExprFactors, MoreExprTerms, AfterName, AfterSubscriptName, MoreOffset, AfterCyclic, MoreItems}
+use Rattle.fd_grammar.specs.Machine.{Want, inner_opening_of, opening_of, heading_of, is_mark, is_fixed}
+use Rattle.fd_grammar.specs.Grammar.{Is, IsAgain, AreLines, AreListed, IsScalar, IsScalarTerm, IsScalarFactor, IsOffset, IsSubscript}
+use Rattle.fd_grammar.specs.Grammar.{IsExpr, IsExprTerm, IsExprFactor, IsForm, IsHead, IsOperator, AreInner, IsDoEnd, IsForallEnd, IsBody}
+use Rattle.fd_grammar.specs.Grammar.{program}
 use Rattle.fd_grammar.specs.Complete.{IsItem}
 use Rattle.fd_grammar.specs.Viable.{mark_sort}
 
@@ -175,7 +182,28 @@ Nameless [] = Unit {0}
 Nameless (r ∷ rs) = (name_of r.1 ≡ None) × Nameless rs
 
 pub nameless_reserved : Nameless reserved
-nameless_reserved = (refl, (refl, (refl, (refl, (refl, (refl, (refl, (refl, (refl, (refl, (refl, (refl, (refl, (refl, (refl, (refl, (refl, (refl, (refl, (refl, (refl, tt)))))))))))))))))))))
+nameless_reserved = (
+  refl,
+  (
+    refl,
+    (
+      refl,
+      (
+        refl,
+        (
+          refl,
+          (
+            refl,
+            (
+              refl,
+              (refl, (refl, (refl, (refl, (refl, (refl, (refl, (refl, (refl, (refl, (refl, (refl, (refl, (refl, tt)))))))))))))),
+            ),
+          ),
+        ),
+      ),
+    ),
+  ),
+)
 
 -- ---- how a list of tokens is cut
 
@@ -247,7 +275,8 @@ pub data AreStatements : List Token → List Statement → Type 0 where
 
 -- line ends, a head and a body
 pub data AreHeadAndBody : List Token → List Declaration → List Statement → Type 0 where
-  filled : {ls hs bs : List Token} {ds : List Declaration} {ss xs : List Statement} → AreLines ls → IsHead hs ds ss → IsBody bs xs → AreHeadAndBody (ls ++ (hs ++ bs)) ds (ss ++ xs)
+  filled : {ls hs bs : List Token} {ds : List Declaration} {ss xs : List Statement} → AreLines ls → IsHead hs ds ss → IsBody bs xs
+      → AreHeadAndBody (ls ++ (hs ++ bs)) ds (ss ++ xs)
 
 abbrev pub HeadAndBody : List Token → List Declaration × List Statement → Type 0
 HeadAndBody ts x = AreHeadAndBody ts x.0 x.1

@@ -2,8 +2,8 @@
 use Rattle.std.specs.Prelude.{ℕ, Bool, true, false, List, [], ◌∷◌, Option, Some, None, codes, bytes_eq, unwrap_or, if◌then◌else◌}
 use Rattle.fd_lexer.specs.declared.token.TokenKind.{TokenKind}
 use Rattle.fd_lexer.specs.declared.token.TokenKind.TheVariants as kind
-use Rattle.fd_syntax.specs.declared.scalar.Arith.{Arith}
-use Rattle.fd_syntax.specs.declared.scalar.Arith.TheVariants.{Plus, Minus, Times}
+use Rattle.fd_words.specs.declared.arith.Arith.{Arith}
+use Rattle.fd_words.specs.declared.arith.Arith.TheVariants.{Plus, Minus, Times}
 use Rattle.fd_grammar.specs.declared.sort.Sort.{Sort}
 use Rattle.fd_grammar.specs.declared.sort.Sort.TheVariants as sort
 

@@ -3,8 +3,8 @@ use Rattle.std.proofs.Common.{◌≡◌, ℕ, Bool, true, false, List, [], ◌�
 use Rattle.std.specs.Prelude.{if◌then◌else◌}
 use Rattle.fd_words.specs.declared.source.SourcePlace.{SourcePlace}
 use Rattle.fd_lexer.specs.declared.token.Token.{Token}
-use Rattle.fd_syntax.specs.declared.scalar.Arith.{Arith}
-use Rattle.fd_syntax.specs.declared.scalar.Arith.TheVariants.{Plus, Minus, Times}
+use Rattle.fd_words.specs.declared.arith.Arith.{Arith}
+use Rattle.fd_words.specs.declared.arith.Arith.TheVariants.{Plus, Minus, Times}
 use Rattle.fd_syntax.specs.declared.scalar.Scalar.{Scalar}
 use Rattle.fd_syntax.specs.declared.scalar.Scalar.TheVariants as scalar
 use Rattle.fd_syntax.specs.declared.scalar.Term.{Term}
@@ -17,32 +17,68 @@ use Rattle.fd_syntax.specs.declared.program.Program.{Program}
 use Rattle.fd_grammar.specs.declared.sort.Sort.{Sort}
 use Rattle.fd_grammar.specs.declared.sort.Sort.TheVariants as sort
 use Rattle.fd_grammar.specs.Sorts.{sort_of, is_word, name_of, sign_of, times_of, opens}
-use Rattle.fd_grammar.specs.Machine.{State, Calm, ScalarFactor, WholeScalar, ExprFactor, WholeExpr, InSubscript, MoreScalarFactors, MoreScalarTerms, MoreExprFactors, MoreExprTerms, AfterName, AfterSubscriptName, MoreOffset, ScalarTerm, SignedScalar, step_scalar_factor, step_lead, step_whole_scalar, step_scalar_factors, step_scalar_terms, term_of, step_offset, step_subscript, step_after_subscript_name, element_of, InElement, ExprTerm, SignedExpr, step_expr_factor, step_expr_factors, step_expr_terms, step_after_name}
-use Rattle.fd_grammar.specs.Grammar.{Is, IsAgain, IsScalar, scalar_term, scalar_signed_plus, scalar_signed_minus, scalar_plus, scalar_minus, IsScalarTerm, scalar_factor, scalar_times, IsScalarFactor, scalar_number, scalar_name, scalar_inside, IsOffset, no_offset, offset_plus, offset_minus, IsSubscript, plain, through, scalar_subscript, IsElement, element, IsExpr, expr_term, expr_signed_plus, expr_signed_minus, expr_plus, expr_minus, IsExprTerm, expr_factor, expr_times, IsExprFactor, expr_number, expr_name, expr_element, expr_inside}
+use Rattle.fd_grammar.specs.Machine.{State, Calm, ScalarFactor, WholeScalar, ExprFactor, WholeExpr, InSubscript, MoreScalarFactors}
+use Rattle.fd_grammar.specs.Machine.{MoreScalarTerms, MoreExprFactors, MoreExprTerms, AfterName, AfterSubscriptName, MoreOffset, ScalarTerm}
+use Rattle.fd_grammar.specs.Machine.{SignedScalar, step_scalar_factor, step_lead, step_whole_scalar, step_scalar_factors, step_scalar_terms}
+use Rattle.fd_grammar.specs.Machine.{term_of, step_offset, step_subscript, step_after_subscript_name, element_of, InElement, ExprTerm}
+use Rattle.fd_grammar.specs.Machine.{SignedExpr, step_expr_factor, step_expr_factors, step_expr_terms, step_after_name}
+use Rattle.fd_grammar.specs.Grammar.{Is, IsAgain, IsScalar, scalar_term, scalar_signed_plus, scalar_signed_minus, scalar_plus, scalar_minus}
+use Rattle.fd_grammar.specs.Grammar.{IsScalarTerm, scalar_factor, scalar_times, IsScalarFactor, scalar_number, scalar_name, scalar_inside}
+use Rattle.fd_grammar.specs.Grammar.{IsOffset, no_offset, offset_plus, offset_minus, IsSubscript, plain, through, scalar_subscript}
+use Rattle.fd_grammar.specs.Grammar.{IsElement, element, IsExpr, expr_term, expr_signed_plus, expr_signed_minus, expr_plus, expr_minus}
+use Rattle.fd_grammar.specs.Grammar.{IsExprTerm, expr_factor, expr_times, IsExprFactor, expr_number, expr_name, expr_element, expr_inside}
 use Rattle.fd_grammar.specs.CompleteExpr.{again, word_again}
-use Rattle.fd_grammar.specs.Meaning.{opens_is, name_is, sign_is, no_times_sign, times_is, Front, FrontPlaced, NameRest, SubscriptRest, Means, MeansCalm, MeansNext, behind, two, both_of, stays}
+use Rattle.fd_grammar.specs.Meaning.{opens_is, name_is, sign_is, no_times_sign, times_is, Front, FrontPlaced, NameRest, SubscriptRest}
+use Rattle.fd_grammar.specs.Meaning.{Means, MeansCalm, MeansNext, behind, two, both_of, stays}
 
 -- ---- scalars
 
-pub s_scalar_factor : (k : Scalar → Calm) (p : Program) (t : Token) (ts : List Token) (c : Sort) → Is c t → MeansNext (step_scalar_factor k c t.at) p ts → Means (ScalarFactor k) p (t ∷ ts)
-s_scalar_factor k p t ts (sort.Numbered n) e m = record { front = t ∷ []; back = ts; value = scalar.Number n t.at; split = refl; is = scalar_number n t e; goes_on = m }
-s_scalar_factor k p t ts (sort.Named n) e m = record { front = t ∷ []; back = ts; value = scalar.Named n t.at; split = refl; is = scalar_name n t e; goes_on = m }
+pub s_scalar_factor : (k : Scalar → Calm) (p : Program) (t : Token) (ts : List Token) (c : Sort) → Is c t
+    → MeansNext (step_scalar_factor k c t.at) p ts → Means (ScalarFactor k) p (t ∷ ts)
+s_scalar_factor k p t ts (sort.Numbered n) e m = record {
+  front = t ∷ [];
+  back = ts;
+  value = scalar.Number n t.at;
+  split = refl;
+  is = scalar_number n t e;
+  goes_on = m;
+}
+s_scalar_factor k p t ts (sort.Named n) e m = record {
+  front = t ∷ [];
+  back = ts;
+  value = scalar.Named n t.at;
+  split = refl;
+  is = scalar_name n t e;
+  goes_on = m;
+}
 s_scalar_factor k p t ts sort.Open e m =
     let w = m.goes_on in
-    record { front = t ∷ (m.front ++ w.token ∷ []); back = w.back; value = m.value; split = behind t w.token ts m.front m.back w.back m.split w.split; is = scalar_inside t e m.is w.token w.is; goes_on = w.goes_on }
+    record {
+      front = t ∷ (m.front ++ w.token ∷ []);
+      back = w.back;
+      value = m.value;
+      split = behind t w.token ts m.front m.back w.back
+          m.split w.split;
+      is = scalar_inside t e m.is w.token w.is;
+      goes_on = w.goes_on;
+    }
 s_scalar_factor k p t ts _ e m = absurd m
 
-pub add_factor : (us vs : List Token) (x y : Scalar) (s : Token) (op : Arith) → times_of (sort_of s.kind) ≡ Some op → IsScalarTerm us x → IsScalarFactor vs y → IsScalarTerm (us ++ s ∷ vs) (scalar.Binary op s.at x y)
+pub add_factor : (us vs : List Token) (x y : Scalar) (s : Token) (op : Arith) → times_of (sort_of s.kind) ≡ Some op → IsScalarTerm us x
+    → IsScalarFactor vs y → IsScalarTerm (us ++ s ∷ vs) (scalar.Binary op s.at x y)
 add_factor us vs x y s op h a b =
     let e = times_is (sort_of s.kind) op h in
     subst (λ o. IsScalarTerm (us ++ s ∷ vs) (scalar.Binary o s.at x y)) e.1 (scalar_times a s e.0 b)
 
-pub add_term : (us vs : List Token) (x y : Scalar) (s : Token) (op : Arith) → sign_of (sort_of s.kind) ≡ Some op → IsScalar us x → IsScalarTerm vs y → IsScalar (us ++ s ∷ vs) (scalar.Binary op s.at x y)
+pub add_term : (us vs : List Token) (x y : Scalar) (s : Token) (op : Arith) → sign_of (sort_of s.kind) ≡ Some op → IsScalar us x
+    → IsScalarTerm vs y → IsScalar (us ++ s ∷ vs) (scalar.Binary op s.at x y)
 add_term us vs x y s Plus h a b = scalar_plus a s (sign_is (sort_of s.kind) Plus h) b
 add_term us vs x y s Minus h a b = scalar_minus a s (sign_is (sort_of s.kind) Minus h) b
 add_term us vs x y s Times h a b = absurd (no_times_sign (sort_of s.kind) h)
 
-pub s_scalar_factors : (x : Scalar) (k : Scalar → Calm) (p : Program) (t : Token) (ts : List Token) (next : Option State) (o : Option Arith) → times_of (sort_of t.kind) ≡ o → (MeansNext next p ts → MeansCalm (k x) p (t ∷ ts)) → MeansNext (step_scalar_factors x k t.at next o) p ts → MeansCalm (MoreScalarFactors x k) p (t ∷ ts)
+pub s_scalar_factors : (x : Scalar) (k : Scalar → Calm) (p : Program) (t : Token) (ts : List Token) (next : Option State)
+    (o : Option Arith) → times_of (sort_of t.kind) ≡ o → (MeansNext next p ts → MeansCalm (k x) p (t ∷ ts))
+    → MeansNext (step_scalar_factors x k t.at next o) p ts → MeansCalm (MoreScalarFactors x k) p (t ∷ ts)
 s_scalar_factors x k p t ts next (Some op) e go m =
     let w = m.goes_on in
     record {
@@ -50,18 +86,36 @@ s_scalar_factors x k p t ts next (Some op) e go m =
       back = w.back;
       value = w.value;
       split = both_of t ts m.front m.back w.front w.back m.split w.split;
-      is = λ before h. subst (λ l. IsScalarTerm l w.value) (append_assoc before (t ∷ m.front) w.front) (w.is (before ++ t ∷ m.front) (add_factor before m.front x m.value t op e h m.is));
+      is = λ before h. subst (λ l. IsScalarTerm l w.value) (append_assoc before (t ∷ m.front) w.front)
+          (w.is (before ++ t ∷ m.front) (add_factor before m.front x m.value t op e h m.is));
       goes_on = w.goes_on;
     }
-s_scalar_factors x k p t ts next None e go m = record { front = []; back = t ∷ ts; value = x; split = refl; is = stays IsScalarTerm x; goes_on = go m }
+s_scalar_factors x k p t ts next None e go m = record {
+  front = [];
+  back = t ∷ ts;
+  value = x;
+  split = refl;
+  is = stays IsScalarTerm x;
+  goes_on = go m;
+}
 
 -- a term that has begun is the product so far and what goes on with it
-pub term_from : (k : Scalar → Calm) (p : Program) (ts : List Token) → Means (ScalarTerm k) p ts → Front IsScalarTerm (λ x. MeansCalm (k x) p) ts
+pub term_from : (k : Scalar → Calm) (p : Program) (ts : List Token) → Means (ScalarTerm k) p ts
+    → Front IsScalarTerm (λ x. MeansCalm (k x) p) ts
 term_from k p ts m =
     let w = m.goes_on in
-    record { front = m.front ++ w.front; back = w.back; value = w.value; split = two ts m.front m.back w.front w.back m.split w.split; is = w.is m.front (scalar_factor m.is); goes_on = w.goes_on }
+    record {
+      front = m.front ++ w.front;
+      back = w.back;
+      value = w.value;
+      split = two ts m.front m.back w.front w.back m.split w.split;
+      is = w.is m.front (scalar_factor m.is);
+      goes_on = w.goes_on;
+    }
 
-pub s_scalar_terms : (x : Scalar) (k : Scalar → Calm) (p : Program) (t : Token) (ts : List Token) (next : Option State) (o : Option Arith) → sign_of (sort_of t.kind) ≡ o → (MeansNext next p ts → MeansCalm (k x) p (t ∷ ts)) → MeansNext (step_scalar_terms x k t.at next o) p ts → MeansCalm (MoreScalarTerms x k) p (t ∷ ts)
+pub s_scalar_terms : (x : Scalar) (k : Scalar → Calm) (p : Program) (t : Token) (ts : List Token) (next : Option State) (o : Option Arith)
+    → sign_of (sort_of t.kind) ≡ o → (MeansNext next p ts → MeansCalm (k x) p (t ∷ ts))
+    → MeansNext (step_scalar_terms x k t.at next o) p ts → MeansCalm (MoreScalarTerms x k) p (t ∷ ts)
 s_scalar_terms x k p t ts next (Some op) e go n =
     let m = term_from (λ y. MoreScalarTerms (scalar.Binary op t.at x y) k) p ts n in
     let w = m.goes_on in
@@ -70,33 +124,68 @@ s_scalar_terms x k p t ts next (Some op) e go n =
       back = w.back;
       value = w.value;
       split = both_of t ts m.front m.back w.front w.back m.split w.split;
-      is = λ before h. subst (λ l. IsScalar l w.value) (append_assoc before (t ∷ m.front) w.front) (w.is (before ++ t ∷ m.front) (add_term before m.front x m.value t op e h m.is));
+      is = λ before h. subst (λ l. IsScalar l w.value) (append_assoc before (t ∷ m.front) w.front)
+          (w.is (before ++ t ∷ m.front) (add_term before m.front x m.value t op e h m.is));
       goes_on = w.goes_on;
     }
-s_scalar_terms x k p t ts next None e go m = record { front = []; back = t ∷ ts; value = x; split = refl; is = stays IsScalar x; goes_on = go m }
+s_scalar_terms x k p t ts next None e go m = record {
+  front = [];
+  back = t ∷ ts;
+  value = x;
+  split = refl;
+  is = stays IsScalar x;
+  goes_on = go m;
+}
 
 pub scalar_unsigned : (k : Scalar → Calm) (p : Program) (ts : List Token) → Means (SignedScalar k None) p ts → Means (WholeScalar k) p ts
 scalar_unsigned k p ts n =
     let m = term_from (λ y. MoreScalarTerms y k) p ts n in
     let w = m.goes_on in
-    record { front = m.front ++ w.front; back = w.back; value = w.value; split = two ts m.front m.back w.front w.back m.split w.split; is = w.is m.front (scalar_term m.is); goes_on = w.goes_on }
+    record {
+      front = m.front ++ w.front;
+      back = w.back;
+      value = w.value;
+      split = two ts m.front m.back w.front w.back m.split w.split;
+      is = w.is m.front (scalar_term m.is);
+      goes_on = w.goes_on;
+    }
 
-pub s_scalar_lead : (k : Scalar → Calm) (p : Program) (t : Token) (ts : List Token) (next : Option State) (o : Option Arith) → sign_of (sort_of t.kind) ≡ o → (MeansNext next p ts → Means (WholeScalar k) p (t ∷ ts)) → MeansNext (step_lead (SignedScalar k) t.at next o) p ts → Means (WholeScalar k) p (t ∷ ts)
+pub s_scalar_lead : (k : Scalar → Calm) (p : Program) (t : Token) (ts : List Token) (next : Option State) (o : Option Arith)
+    → sign_of (sort_of t.kind) ≡ o → (MeansNext next p ts → Means (WholeScalar k) p (t ∷ ts))
+    → MeansNext (step_lead (SignedScalar k) t.at next o) p ts → Means (WholeScalar k) p (t ∷ ts)
 s_scalar_lead k p t ts next (Some Plus) h go n =
     let m = term_from (λ y. MoreScalarTerms y k) p ts n in
     let w = m.goes_on in
-    record { front = t ∷ (m.front ++ w.front); back = w.back; value = w.value; split = both_of t ts m.front m.back w.front w.back m.split w.split; is = w.is (t ∷ m.front) (scalar_signed_plus t (sign_is (sort_of t.kind) Plus h) m.is); goes_on = w.goes_on }
+    record {
+      front = t ∷ (m.front ++ w.front);
+      back = w.back;
+      value = w.value;
+      split = both_of t ts m.front m.back w.front w.back m.split
+          w.split;
+      is = w.is (t ∷ m.front) (scalar_signed_plus t (sign_is (sort_of t.kind) Plus h) m.is);
+      goes_on = w.goes_on;
+    }
 s_scalar_lead k p t ts next (Some Minus) h go n =
     let m = term_from (λ y. MoreScalarTerms (scalar.Negate t.at y) k) p ts n in
     let w = m.goes_on in
-    record { front = t ∷ (m.front ++ w.front); back = w.back; value = w.value; split = both_of t ts m.front m.back w.front w.back m.split w.split; is = w.is (t ∷ m.front) (scalar_signed_minus t (sign_is (sort_of t.kind) Minus h) m.is); goes_on = w.goes_on }
+    record {
+      front = t ∷ (m.front ++ w.front);
+      back = w.back;
+      value = w.value;
+      split = both_of t ts m.front m.back w.front w.back m.split
+          w.split;
+      is = w.is (t ∷ m.front) (scalar_signed_minus t (sign_is (sort_of t.kind) Minus h) m.is);
+      goes_on = w.goes_on;
+    }
 s_scalar_lead k p t ts next (Some Times) h go n = absurd (no_times_sign (sort_of t.kind) h)
 s_scalar_lead k p t ts next None h go m = go m
 
-pub s_whole_scalar : (k : Scalar → Calm) (p : Program) (t : Token) (ts : List Token) → MeansNext (step_whole_scalar k (sort_of t.kind) t.at) p ts → Means (WholeScalar k) p (t ∷ ts)
+pub s_whole_scalar : (k : Scalar → Calm) (p : Program) (t : Token) (ts : List Token)
+    → MeansNext (step_whole_scalar k (sort_of t.kind) t.at) p ts → Means (WholeScalar k) p (t ∷ ts)
 s_whole_scalar k p t ts m =
     let k' : Scalar → Calm = λ x. MoreScalarFactors x (λ y. MoreScalarTerms y k) in
-    s_scalar_lead k p t ts (step_scalar_factor k' (sort_of t.kind) t.at) (sign_of (sort_of t.kind)) refl (λ n. scalar_unsigned k p (t ∷ ts) (s_scalar_factor k' p t ts (sort_of t.kind) refl n)) m
+    s_scalar_lead k p t ts (step_scalar_factor k' (sort_of t.kind) t.at) (sign_of (sort_of t.kind)) refl
+    (λ n. scalar_unsigned k p (t ∷ ts) (s_scalar_factor k' p t ts (sort_of t.kind) refl n)) m
 
 -- a scalar has a first token
 abbrev pub Some_tokens : List Token → Type 0
@@ -121,7 +210,8 @@ scalar_some (scalar_minus {vs = vs} a s e b) = let r = scalar_some a in (r.0, _,
 pub no_scalar : {x : Scalar} → IsScalar [] x → ⊥
 no_scalar i = let r = scalar_some i in let e = r.2 in cc
 
-pub placed_from : (t : Token) (ts front back : List Token) (x : Scalar) (rest : SourcePlace → Scalar → List Token → Type 0) → t ∷ ts ≡ front ++ back → IsScalar front x → rest t.at x back → FrontPlaced rest (t ∷ ts)
+pub placed_from : (t : Token) (ts front back : List Token) (x : Scalar) (rest : SourcePlace → Scalar → List Token → Type 0)
+    → t ∷ ts ≡ front ++ back → IsScalar front x → rest t.at x back → FrontPlaced rest (t ∷ ts)
 placed_from t ts [] back x rest e i g = absurd (no_scalar i)
 placed_from t ts (f ∷ us) back x rest e i g =
     let same : t ≡ f = cc in
@@ -129,12 +219,15 @@ placed_from t ts (f ∷ us) back x rest e i g =
 
 -- ---- subscripts
 
-pub add_offset : (us vs : List Token) (add : List Term) (x : Scalar) (s : Token) (op : Arith) → sign_of (sort_of s.kind) ≡ Some op → IsOffset us add → IsScalarTerm vs x → IsOffset (us ++ s ∷ vs) (add ++ term_of op s.at x ∷ [])
+pub add_offset : (us vs : List Token) (add : List Term) (x : Scalar) (s : Token) (op : Arith) → sign_of (sort_of s.kind) ≡ Some op
+    → IsOffset us add → IsScalarTerm vs x → IsOffset (us ++ s ∷ vs) (add ++ term_of op s.at x ∷ [])
 add_offset us vs add x s Plus h a b = offset_plus a s (sign_is (sort_of s.kind) Plus h) b
 add_offset us vs add x s Minus h a b = offset_minus a s (sign_is (sort_of s.kind) Minus h) b
 add_offset us vs add x s Times h a b = absurd (no_times_sign (sort_of s.kind) h)
 
-pub s_offset : (add : List Term) (k : List Term → Calm) (p : Program) (t : Token) (ts : List Token) (next : Option State) (o : Option Arith) → sign_of (sort_of t.kind) ≡ o → (MeansNext next p ts → MeansCalm (k add) p (t ∷ ts)) → MeansNext (step_offset add k t.at next o) p ts → MeansCalm (MoreOffset add k) p (t ∷ ts)
+pub s_offset : (add : List Term) (k : List Term → Calm) (p : Program) (t : Token) (ts : List Token) (next : Option State)
+    (o : Option Arith) → sign_of (sort_of t.kind) ≡ o → (MeansNext next p ts → MeansCalm (k add) p (t ∷ ts))
+    → MeansNext (step_offset add k t.at next o) p ts → MeansCalm (MoreOffset add k) p (t ∷ ts)
 s_offset add k p t ts next (Some op) e go n =
     let m = term_from (λ y. MoreOffset (add ++ term_of op t.at y ∷ []) k) p ts n in
     let w = m.goes_on in
@@ -143,59 +236,115 @@ s_offset add k p t ts next (Some op) e go n =
       back = w.back;
       value = w.value;
       split = both_of t ts m.front m.back w.front w.back m.split w.split;
-      is = λ before h. subst (λ l. IsOffset l w.value) (append_assoc before (t ∷ m.front) w.front) (w.is (before ++ t ∷ m.front) (add_offset before m.front add m.value t op e h m.is));
+      is = λ before h. subst (λ l. IsOffset l w.value) (append_assoc before (t ∷ m.front) w.front)
+          (w.is (before ++ t ∷ m.front) (add_offset before m.front add m.value t op e h m.is));
       goes_on = w.goes_on;
     }
-s_offset add k p t ts next None e go m = record { front = []; back = t ∷ ts; value = add; split = refl; is = stays IsOffset add; goes_on = go m }
+s_offset add k p t ts next None e go m = record {
+  front = [];
+  back = t ∷ ts;
+  value = add;
+  split = refl;
+  is = stays IsOffset add;
+  goes_on = go m;
+}
 
 pub not_again : (index : List ℕ) (t : Token) → is_word index t.kind ≡ false → IsAgain index t → ⊥
 not_again index t h e = let g = again index t e in cc
 
-pub scalar_subscript_from : (index : List ℕ) (t : Token) (ts front back : List Token) (x : Scalar) → (IsAgain index t → ⊥) → t ∷ ts ≡ front ++ back → IsScalar front x → IsSubscript index front (subscript.Scalar x)
+pub scalar_subscript_from : (index : List ℕ) (t : Token) (ts front back : List Token) (x : Scalar) → (IsAgain index t → ⊥)
+    → t ∷ ts ≡ front ++ back → IsScalar front x → IsSubscript index front (subscript.Scalar x)
 scalar_subscript_from index t ts [] back x n e i = absurd (no_scalar i)
 scalar_subscript_from index t ts (f ∷ us) back x n e i =
     let same : t ≡ f = cc in
     scalar_subscript f (subst (λ u. IsAgain index u → ⊥) same n) i
 
-pub s_subscript : (index : List ℕ) (k : Subscript → Calm) (p : Program) (t : Token) (ts : List Token) (b : Bool) (o : Option (List ℕ)) → is_word index t.kind ≡ b → name_of (sort_of t.kind) ≡ o
-    → MeansNext (step_subscript index k t.at (step_whole_scalar (λ x. k (subscript.Scalar x)) (sort_of t.kind) t.at) b o) p ts → Means (InSubscript index k) p (t ∷ ts)
+pub s_subscript : (index : List ℕ) (k : Subscript → Calm) (p : Program) (t : Token) (ts : List Token) (b : Bool) (o : Option (List ℕ))
+    → is_word index t.kind ≡ b → name_of (sort_of t.kind) ≡ o
+    → MeansNext (step_subscript index k t.at (step_whole_scalar (λ x. k (subscript.Scalar x)) (sort_of t.kind) t.at) b o) p ts
+    → Means (InSubscript index k) p (t ∷ ts)
 s_subscript index k p t ts true o h g m =
-    record { front = t ∷ m.front; back = m.back; value = subscript.Plain m.value; split = ap (λ l. t ∷ l) m.split; is = plain t (word_again index t.kind h) (m.is [] no_offset); goes_on = m.goes_on }
+    record {
+      front = t ∷ m.front;
+      back = m.back;
+      value = subscript.Plain m.value;
+      split = ap (λ l. t ∷ l) m.split;
+      is = plain t (word_again index t.kind h) (m.is [] no_offset);
+      goes_on = m.goes_on;
+    }
 s_subscript index k p t ts false (Some name) h g m =
-    record { front = t ∷ m.front; back = m.back; value = m.value; split = ap (λ l. t ∷ l) m.split; is = m.is t (name_is (sort_of t.kind) name g) refl (not_again index t h); goes_on = m.goes_on }
+    record {
+      front = t ∷ m.front;
+      back = m.back;
+      value = m.value;
+      split = ap (λ l. t ∷ l) m.split;
+      is = m.is t (name_is (sort_of t.kind) name g) refl (not_again index t h);
+      goes_on = m.goes_on;
+    }
 s_subscript index k p t ts false None h g n =
     let m = s_whole_scalar (λ x. k (subscript.Scalar x)) p t ts n in
-    record { front = m.front; back = m.back; value = subscript.Scalar m.value; split = m.split; is = scalar_subscript_from index t ts m.front m.back m.value (not_again index t h) m.split m.is; goes_on = m.goes_on }
+    record {
+      front = m.front;
+      back = m.back;
+      value = subscript.Scalar m.value;
+      split = m.split;
+      is = scalar_subscript_from index t ts m.front m.back m.value (not_again index t h) m.split m.is;
+      goes_on = m.goes_on;
+    }
 
 -- a scalar that began with a name
-pub scalar_goes_on : (index name : List ℕ) (at : SourcePlace) (k : Subscript → Calm) (p : Program) (ts : List Token) → MeansCalm (MoreScalarFactors (scalar.Named name at) (λ y. MoreScalarTerms y (λ x. k (subscript.Scalar x)))) p ts → MeansCalm (AfterSubscriptName index name at k) p ts
+pub scalar_goes_on : (index name : List ℕ) (at : SourcePlace) (k : Subscript → Calm) (p : Program) (ts : List Token)
+    → MeansCalm (MoreScalarFactors (scalar.Named name at) (λ y. MoreScalarTerms y (λ x. k (subscript.Scalar x)))) p ts
+    → MeansCalm (AfterSubscriptName index name at k) p ts
 scalar_goes_on index name at k p ts m =
     let w = m.goes_on in
     let is : SubscriptRest index name at (m.front ++ w.front) (subscript.Scalar w.value) = λ u f g n.
-    let first : IsScalarTerm (u ∷ []) (scalar.Named name at) = subst (λ a. IsScalarTerm (u ∷ []) (scalar.Named name a)) g (scalar_factor (scalar_name name u f)) in
+    let first : IsScalarTerm (u ∷ []) (scalar.Named name at) = subst (λ a. IsScalarTerm (u ∷ []) (scalar.Named name a)) g
+    (scalar_factor (scalar_name name u f)) in
     scalar_subscript u n (w.is (u ∷ m.front) (scalar_term (m.is (u ∷ []) first)))
     in
-    record { front = m.front ++ w.front; back = w.back; value = subscript.Scalar w.value; split = two ts m.front m.back w.front w.back m.split w.split; is = is; goes_on = w.goes_on }
+    record {
+      front = m.front ++ w.front;
+      back = w.back;
+      value = subscript.Scalar w.value;
+      split = two ts m.front m.back w.front w.back
+          m.split w.split;
+      is = is;
+      goes_on = w.goes_on;
+    }
 
-pub s_after_subscript_name : (index name : List ℕ) (at : SourcePlace) (k : Subscript → Calm) (p : Program) (t : Token) (ts : List Token) (next : Option State) (b : Bool) → opens (sort_of t.kind) ≡ b
-    → (MeansNext next p ts → MeansCalm (MoreScalarFactors (scalar.Named name at) (λ y. MoreScalarTerms y (λ x. k (subscript.Scalar x)))) p (t ∷ ts))
+pub s_after_subscript_name : (index name : List ℕ) (at : SourcePlace) (k : Subscript → Calm) (p : Program) (t : Token) (ts : List Token)
+    (next : Option State) (b : Bool) → opens (sort_of t.kind) ≡ b
+    → (MeansNext next p ts → MeansCalm (MoreScalarFactors (scalar.Named name at) (λ y. MoreScalarTerms y (λ x. k (subscript.Scalar x)))) p
+    (t ∷ ts))
     → MeansNext (step_after_subscript_name index name at k next b) p ts → MeansCalm (AfterSubscriptName index name at k) p (t ∷ ts)
 s_after_subscript_name index name at k p t ts next true h go i =
     let a = i.goes_on in
     let c = a.goes_on in
     let b = c.goes_on in
-    let is : SubscriptRest index name at (t ∷ i.token ∷ (a.front ++ c.token ∷ b.front)) (subscript.Through name at a.value b.value) = λ u f g n.
+    let is : SubscriptRest index name at (t ∷ i.token ∷ (a.front ++ c.token ∷ b.front)) (subscript.Through name at a.value b.value) =
+    λ u f g n.
     subst (λ q. IsSubscript index (u ∷ t ∷ i.token ∷ (a.front ++ c.token ∷ b.front)) (subscript.Through name q a.value b.value)) g
     (through u t i.token c.token f n (opens_is (sort_of t.kind) h) i.is (a.is [] no_offset) c.is (b.is [] no_offset))
     in
     let split : t ∷ ts ≡ (t ∷ i.token ∷ (a.front ++ c.token ∷ b.front)) ++ b.back =
-    ap (λ l. t ∷ l) (i.split ∙ ap (λ l. i.token ∷ l) (a.split ∙ ap (λ l. a.front ++ l) (c.split ∙ ap (λ l. c.token ∷ l) b.split) ∙ sym (append_assoc a.front (c.token ∷ b.front) b.back)))
+    ap (λ l. t ∷ l) (i.split ∙ ap (λ l. i.token ∷ l) (a.split ∙ ap (λ l. a.front ++ l) (c.split ∙ ap (λ l. c.token ∷ l) b.split)
+    ∙ sym (append_assoc a.front (c.token ∷ b.front) b.back)))
     in
-    record { front = t ∷ i.token ∷ (a.front ++ c.token ∷ b.front); back = b.back; value = subscript.Through name at a.value b.value; split = split; is = is; goes_on = b.goes_on }
+    record {
+      front = t ∷ i.token ∷ (a.front ++ c.token ∷ b.front);
+      back = b.back;
+      value = subscript.Through name at a.value b.value;
+      split = split;
+      is = is;
+      goes_on = b.goes_on;
+    }
 s_after_subscript_name index name at k p t ts next false h go m = scalar_goes_on index name at k p (t ∷ ts) (go m)
 
 -- an element behind its name and parenthesis
-pub s_element : (index : List ℕ) (n o : Token) (name : List ℕ) (k : Element → State) (p : Program) (ts : List Token) → Is (sort.Named name) n → Is sort.Open o → Means (InElement index name n.at k) p ts → Front (IsElement index) (λ e. Means (k e) p) (n ∷ o ∷ ts)
+pub s_element : (index : List ℕ) (n o : Token) (name : List ℕ) (k : Element → State) (p : Program) (ts : List Token)
+    → Is (sort.Named name) n → Is sort.Open o → Means (InElement index name n.at k) p ts → Front (IsElement index) (λ e. Means (k e) p)
+    (n ∷ o ∷ ts)
 s_element index n o name k p ts en eo m =
     let w = m.goes_on in
     record {
@@ -209,35 +358,79 @@ s_element index n o name k p ts en eo m =
 
 -- ---- expressions
 
-pub s_expr_factor : (index : List ℕ) (k : Expr → Calm) (p : Program) (t : Token) (ts : List Token) (c : Sort) → Is c t → MeansNext (step_expr_factor index k c t.at) p ts → Means (ExprFactor index k) p (t ∷ ts)
-s_expr_factor index k p t ts (sort.Numbered n) e m = record { front = t ∷ []; back = ts; value = expr.Number n; split = refl; is = expr_number n t e; goes_on = m }
-s_expr_factor index k p t ts (sort.Named n) e m = record { front = t ∷ m.front; back = m.back; value = m.value; split = ap (λ l. t ∷ l) m.split; is = m.is t e refl; goes_on = m.goes_on }
+pub s_expr_factor : (index : List ℕ) (k : Expr → Calm) (p : Program) (t : Token) (ts : List Token) (c : Sort) → Is c t
+    → MeansNext (step_expr_factor index k c t.at) p ts → Means (ExprFactor index k) p (t ∷ ts)
+s_expr_factor index k p t ts (sort.Numbered n) e m = record {
+  front = t ∷ [];
+  back = ts;
+  value = expr.Number n;
+  split = refl;
+  is = expr_number n t e;
+  goes_on = m;
+}
+s_expr_factor index k p t ts (sort.Named n) e m = record {
+  front = t ∷ m.front;
+  back = m.back;
+  value = m.value;
+  split = ap (λ l. t ∷ l) m.split;
+  is = m.is t e refl;
+  goes_on = m.goes_on;
+}
 s_expr_factor index k p t ts sort.Open e m =
     let w = m.goes_on in
-    record { front = t ∷ (m.front ++ w.token ∷ []); back = w.back; value = m.value; split = behind t w.token ts m.front m.back w.back m.split w.split; is = expr_inside t e m.is w.token w.is; goes_on = w.goes_on }
+    record {
+      front = t ∷ (m.front ++ w.token ∷ []);
+      back = w.back;
+      value = m.value;
+      split = behind t w.token ts m.front m.back w.back
+          m.split w.split;
+      is = expr_inside t e m.is w.token w.is;
+      goes_on = w.goes_on;
+    }
 s_expr_factor index k p t ts _ e m = absurd m
 
-pub s_after_name : (index name : List ℕ) (at : SourcePlace) (k : Expr → Calm) (p : Program) (t : Token) (ts : List Token) (next : Option State) (b : Bool) → opens (sort_of t.kind) ≡ b → (MeansNext next p ts → MeansCalm (k (expr.Named name at)) p (t ∷ ts)) → MeansNext (step_after_name index name at k next b) p ts → MeansCalm (AfterName index name at k) p (t ∷ ts)
+pub s_after_name : (index name : List ℕ) (at : SourcePlace) (k : Expr → Calm) (p : Program) (t : Token) (ts : List Token)
+    (next : Option State) (b : Bool) → opens (sort_of t.kind) ≡ b → (MeansNext next p ts → MeansCalm (k (expr.Named name at)) p (t ∷ ts))
+    → MeansNext (step_after_name index name at k next b) p ts → MeansCalm (AfterName index name at k) p (t ∷ ts)
 s_after_name index name at k p t ts next true h go m =
     let w = m.goes_on in
     let is : NameRest index name at (t ∷ (m.front ++ w.token ∷ [])) (expr.Read (element_of name at m.value)) = λ u f g.
-    subst (λ q. IsExprFactor index (u ∷ t ∷ (m.front ++ w.token ∷ [])) (expr.Read (element_of name q m.value))) g (expr_element (element u t w.token f (opens_is (sort_of t.kind) h) m.is w.is))
+    subst (λ q. IsExprFactor index (u ∷ t ∷ (m.front ++ w.token ∷ [])) (expr.Read (element_of name q m.value))) g
+    (expr_element (element u t w.token f (opens_is (sort_of t.kind) h) m.is w.is))
     in
-    record { front = t ∷ (m.front ++ w.token ∷ []); back = w.back; value = expr.Read (element_of name at m.value); split = behind t w.token ts m.front m.back w.back m.split w.split; is = is; goes_on = w.goes_on }
+    record {
+      front = t ∷ (m.front ++ w.token ∷ []);
+      back = w.back;
+      value = expr.Read (element_of name at m.value);
+      split = behind t w.token ts m.front m.back w.back m.split w.split;
+      is = is;
+      goes_on = w.goes_on;
+    }
 s_after_name index name at k p t ts next false h go m =
-    record { front = []; back = t ∷ ts; value = expr.Named name at; split = refl; is = λ u f g. subst (λ q. IsExprFactor index (u ∷ []) (expr.Named name q)) g (expr_name name u f); goes_on = go m }
+    record {
+      front = [];
+      back = t ∷ ts;
+      value = expr.Named name at;
+      split = refl;
+      is = λ u f g. subst (λ q. IsExprFactor index (u ∷ []) (expr.Named name q)) g (expr_name name u f);
+      goes_on = go m;
+    }
 
-pub add_expr_factor : (index : List ℕ) (us vs : List Token) (x y : Expr) (s : Token) (op : Arith) → times_of (sort_of s.kind) ≡ Some op → IsExprTerm index us x → IsExprFactor index vs y → IsExprTerm index (us ++ s ∷ vs) (expr.Binary op x y)
+pub add_expr_factor : (index : List ℕ) (us vs : List Token) (x y : Expr) (s : Token) (op : Arith) → times_of (sort_of s.kind) ≡ Some op
+    → IsExprTerm index us x → IsExprFactor index vs y → IsExprTerm index (us ++ s ∷ vs) (expr.Binary op x y)
 add_expr_factor index us vs x y s op h a b =
     let e = times_is (sort_of s.kind) op h in
     subst (λ o. IsExprTerm index (us ++ s ∷ vs) (expr.Binary o x y)) e.1 (expr_times a s e.0 b)
 
-pub add_expr_term : (index : List ℕ) (us vs : List Token) (x y : Expr) (s : Token) (op : Arith) → sign_of (sort_of s.kind) ≡ Some op → IsExpr index us x → IsExprTerm index vs y → IsExpr index (us ++ s ∷ vs) (expr.Binary op x y)
+pub add_expr_term : (index : List ℕ) (us vs : List Token) (x y : Expr) (s : Token) (op : Arith) → sign_of (sort_of s.kind) ≡ Some op
+    → IsExpr index us x → IsExprTerm index vs y → IsExpr index (us ++ s ∷ vs) (expr.Binary op x y)
 add_expr_term index us vs x y s Plus h a b = expr_plus a s (sign_is (sort_of s.kind) Plus h) b
 add_expr_term index us vs x y s Minus h a b = expr_minus a s (sign_is (sort_of s.kind) Minus h) b
 add_expr_term index us vs x y s Times h a b = absurd (no_times_sign (sort_of s.kind) h)
 
-pub s_expr_factors : (index : List ℕ) (x : Expr) (k : Expr → Calm) (p : Program) (t : Token) (ts : List Token) (next : Option State) (o : Option Arith) → times_of (sort_of t.kind) ≡ o → (MeansNext next p ts → MeansCalm (k x) p (t ∷ ts)) → MeansNext (step_expr_factors index x k next o) p ts → MeansCalm (MoreExprFactors index x k) p (t ∷ ts)
+pub s_expr_factors : (index : List ℕ) (x : Expr) (k : Expr → Calm) (p : Program) (t : Token) (ts : List Token) (next : Option State)
+    (o : Option Arith) → times_of (sort_of t.kind) ≡ o → (MeansNext next p ts → MeansCalm (k x) p (t ∷ ts))
+    → MeansNext (step_expr_factors index x k next o) p ts → MeansCalm (MoreExprFactors index x k) p (t ∷ ts)
 s_expr_factors index x k p t ts next (Some op) e go m =
     let w = m.goes_on in
     record {
@@ -245,17 +438,35 @@ s_expr_factors index x k p t ts next (Some op) e go m =
       back = w.back;
       value = w.value;
       split = both_of t ts m.front m.back w.front w.back m.split w.split;
-      is = λ before h. subst (λ l. IsExprTerm index l w.value) (append_assoc before (t ∷ m.front) w.front) (w.is (before ++ t ∷ m.front) (add_expr_factor index before m.front x m.value t op e h m.is));
+      is = λ before h. subst (λ l. IsExprTerm index l w.value) (append_assoc before (t ∷ m.front) w.front)
+          (w.is (before ++ t ∷ m.front) (add_expr_factor index before m.front x m.value t op e h m.is));
       goes_on = w.goes_on;
     }
-s_expr_factors index x k p t ts next None e go m = record { front = []; back = t ∷ ts; value = x; split = refl; is = stays (IsExprTerm index) x; goes_on = go m }
+s_expr_factors index x k p t ts next None e go m = record {
+  front = [];
+  back = t ∷ ts;
+  value = x;
+  split = refl;
+  is = stays (IsExprTerm index) x;
+  goes_on = go m;
+}
 
-pub expr_term_from : (index : List ℕ) (k : Expr → Calm) (p : Program) (ts : List Token) → Means (ExprTerm index k) p ts → Front (IsExprTerm index) (λ x. MeansCalm (k x) p) ts
+pub expr_term_from : (index : List ℕ) (k : Expr → Calm) (p : Program) (ts : List Token) → Means (ExprTerm index k) p ts
+    → Front (IsExprTerm index) (λ x. MeansCalm (k x) p) ts
 expr_term_from index k p ts m =
     let w = m.goes_on in
-    record { front = m.front ++ w.front; back = w.back; value = w.value; split = two ts m.front m.back w.front w.back m.split w.split; is = w.is m.front (expr_factor m.is); goes_on = w.goes_on }
+    record {
+      front = m.front ++ w.front;
+      back = w.back;
+      value = w.value;
+      split = two ts m.front m.back w.front w.back m.split w.split;
+      is = w.is m.front (expr_factor m.is);
+      goes_on = w.goes_on;
+    }
 
-pub s_expr_terms : (index : List ℕ) (x : Expr) (k : Expr → Calm) (p : Program) (t : Token) (ts : List Token) (next : Option State) (o : Option Arith) → sign_of (sort_of t.kind) ≡ o → (MeansNext next p ts → MeansCalm (k x) p (t ∷ ts)) → MeansNext (step_expr_terms index x k next o) p ts → MeansCalm (MoreExprTerms index x k) p (t ∷ ts)
+pub s_expr_terms : (index : List ℕ) (x : Expr) (k : Expr → Calm) (p : Program) (t : Token) (ts : List Token) (next : Option State)
+    (o : Option Arith) → sign_of (sort_of t.kind) ≡ o → (MeansNext next p ts → MeansCalm (k x) p (t ∷ ts))
+    → MeansNext (step_expr_terms index x k next o) p ts → MeansCalm (MoreExprTerms index x k) p (t ∷ ts)
 s_expr_terms index x k p t ts next (Some op) e go n =
     let m = expr_term_from index (λ y. MoreExprTerms index (expr.Binary op x y) k) p ts n in
     let w = m.goes_on in
@@ -264,25 +475,59 @@ s_expr_terms index x k p t ts next (Some op) e go n =
       back = w.back;
       value = w.value;
       split = both_of t ts m.front m.back w.front w.back m.split w.split;
-      is = λ before h. subst (λ l. IsExpr index l w.value) (append_assoc before (t ∷ m.front) w.front) (w.is (before ++ t ∷ m.front) (add_expr_term index before m.front x m.value t op e h m.is));
+      is = λ before h. subst (λ l. IsExpr index l w.value) (append_assoc before (t ∷ m.front) w.front)
+          (w.is (before ++ t ∷ m.front) (add_expr_term index before m.front x m.value t op e h m.is));
       goes_on = w.goes_on;
     }
-s_expr_terms index x k p t ts next None e go m = record { front = []; back = t ∷ ts; value = x; split = refl; is = stays (IsExpr index) x; goes_on = go m }
+s_expr_terms index x k p t ts next None e go m = record {
+  front = [];
+  back = t ∷ ts;
+  value = x;
+  split = refl;
+  is = stays (IsExpr index) x;
+  goes_on = go m;
+}
 
-pub expr_unsigned : (index : List ℕ) (k : Expr → Calm) (p : Program) (ts : List Token) → Means (SignedExpr index k None) p ts → Means (WholeExpr index k) p ts
+pub expr_unsigned : (index : List ℕ) (k : Expr → Calm) (p : Program) (ts : List Token) → Means (SignedExpr index k None) p ts
+    → Means (WholeExpr index k) p ts
 expr_unsigned index k p ts n =
     let m = expr_term_from index (λ y. MoreExprTerms index y k) p ts n in
     let w = m.goes_on in
-    record { front = m.front ++ w.front; back = w.back; value = w.value; split = two ts m.front m.back w.front w.back m.split w.split; is = w.is m.front (expr_term m.is); goes_on = w.goes_on }
+    record {
+      front = m.front ++ w.front;
+      back = w.back;
+      value = w.value;
+      split = two ts m.front m.back w.front w.back m.split w.split;
+      is = w.is m.front (expr_term m.is);
+      goes_on = w.goes_on;
+    }
 
-pub s_expr_lead : (index : List ℕ) (k : Expr → Calm) (p : Program) (t : Token) (ts : List Token) (next : Option State) (o : Option Arith) → sign_of (sort_of t.kind) ≡ o → (MeansNext next p ts → Means (WholeExpr index k) p (t ∷ ts)) → MeansNext (step_lead (SignedExpr index k) t.at next o) p ts → Means (WholeExpr index k) p (t ∷ ts)
+pub s_expr_lead : (index : List ℕ) (k : Expr → Calm) (p : Program) (t : Token) (ts : List Token) (next : Option State) (o : Option Arith)
+    → sign_of (sort_of t.kind) ≡ o → (MeansNext next p ts → Means (WholeExpr index k) p (t ∷ ts))
+    → MeansNext (step_lead (SignedExpr index k) t.at next o) p ts → Means (WholeExpr index k) p (t ∷ ts)
 s_expr_lead index k p t ts next (Some Plus) h go n =
     let m = expr_term_from index (λ y. MoreExprTerms index y k) p ts n in
     let w = m.goes_on in
-    record { front = t ∷ (m.front ++ w.front); back = w.back; value = w.value; split = both_of t ts m.front m.back w.front w.back m.split w.split; is = w.is (t ∷ m.front) (expr_signed_plus t (sign_is (sort_of t.kind) Plus h) m.is); goes_on = w.goes_on }
+    record {
+      front = t ∷ (m.front ++ w.front);
+      back = w.back;
+      value = w.value;
+      split = both_of t ts m.front m.back w.front w.back m.split
+          w.split;
+      is = w.is (t ∷ m.front) (expr_signed_plus t (sign_is (sort_of t.kind) Plus h) m.is);
+      goes_on = w.goes_on;
+    }
 s_expr_lead index k p t ts next (Some Minus) h go n =
     let m = expr_term_from index (λ y. MoreExprTerms index (expr.Negate y) k) p ts n in
     let w = m.goes_on in
-    record { front = t ∷ (m.front ++ w.front); back = w.back; value = w.value; split = both_of t ts m.front m.back w.front w.back m.split w.split; is = w.is (t ∷ m.front) (expr_signed_minus t (sign_is (sort_of t.kind) Minus h) m.is); goes_on = w.goes_on }
+    record {
+      front = t ∷ (m.front ++ w.front);
+      back = w.back;
+      value = w.value;
+      split = both_of t ts m.front m.back w.front w.back m.split
+          w.split;
+      is = w.is (t ∷ m.front) (expr_signed_minus t (sign_is (sort_of t.kind) Minus h) m.is);
+      goes_on = w.goes_on;
+    }
 s_expr_lead index k p t ts next (Some Times) h go n = absurd (no_times_sign (sort_of t.kind) h)
 s_expr_lead index k p t ts next None h go m = go m

@@ -25,8 +25,14 @@ use Rattle.fd_grammar.specs.declared.mark.Mark.TheVariants as mark
 use Rattle.fd_grammar.specs.declared.mark.Fixed.{Fixed}
 use Rattle.fd_grammar.specs.declared.mark.Fixed.TheVariants as fixed
 use Rattle.fd_grammar.specs.Sorts.{sort_of, sort_of_word, sign_of, times_of, opens}
-use Rattle.fd_grammar.specs.Machine.{EndOfProgram, EndOfDo, EndOfForall, Item, ParameterItem, SizedItem, ListedItem, AlignedItem, Value, mark_of, State, Calm, ScalarFactor, WholeScalar, PlacedScalar, ExprFactor, WholeExpr, InSubscript, AnyName, SameName, Take, InForm, Operator, Head, Body, Close, FirstInner, MoreInner, Begin, Ended, Then, MoreScalarFactors, MoreScalarTerms, MoreExprFactors, MoreExprTerms, AfterName, AfterSubscriptName, MoreOffset, AfterCyclic, MoreItems, Want, step_offset, step_after_subscript_name, step_expr_terms, step_after_cyclic, step, step_calm, after, run, ending}
-use Rattle.fd_grammar.specs.Grammar.{Is, IsAgain, no_lines, scalar_term, scalar_factor, scalar_number, scalar_subscript, element, expr_term, expr_factor, expr_number, assigned, AreInner, last_inner, end_forall_word}
+use Rattle.fd_grammar.specs.Machine.{EndOfProgram, EndOfDo, EndOfForall, Item, ParameterItem, SizedItem, ListedItem, AlignedItem, Value}
+use Rattle.fd_grammar.specs.Machine.{mark_of, State, Calm, ScalarFactor, WholeScalar, PlacedScalar, ExprFactor, WholeExpr, InSubscript}
+use Rattle.fd_grammar.specs.Machine.{AnyName, SameName, Take, InForm, Operator, Head, Body, Close, FirstInner, MoreInner, Begin, Ended}
+use Rattle.fd_grammar.specs.Machine.{Then, MoreScalarFactors, MoreScalarTerms, MoreExprFactors, MoreExprTerms, AfterName}
+use Rattle.fd_grammar.specs.Machine.{AfterSubscriptName, MoreOffset, AfterCyclic, MoreItems, Want, step_offset, step_after_subscript_name}
+use Rattle.fd_grammar.specs.Machine.{step_expr_terms, step_after_cyclic, step, step_calm, after, run, ending}
+use Rattle.fd_grammar.specs.Grammar.{Is, IsAgain, no_lines, scalar_term, scalar_factor, scalar_number, scalar_subscript, element, expr_term}
+use Rattle.fd_grammar.specs.Grammar.{expr_factor, expr_number, assigned, AreInner, last_inner, end_forall_word}
 use Rattle.fd_grammar.specs.CompleteExpr.{go, go_again, no_star, no_sign, no_star_expr, no_open}
 use Rattle.fd_grammar.specs.Complete.{reads_first_inner, forall_closes}
 
@@ -156,7 +162,8 @@ wants mark.Equals s more = refl
 wants mark.Line s more = refl
 wants mark.With s more = refl
 
-items_end : (i : Item) (xs : List (Value i)) (k : List (Value i) → State) (more : List Token) → run (marked (mark_of i) ∷ more) (Then (MoreItems i xs k)) ≡ run more (k xs)
+items_end : (i : Item) (xs : List (Value i)) (k : List (Value i) → State) (more : List Token)
+    → run (marked (mark_of i) ∷ more) (Then (MoreItems i xs k)) ≡ run more (k xs)
 unfolding sort_of sort_of_word
 items_end ParameterItem xs k more = refl
 items_end SizedItem xs k more = refl
@@ -164,40 +171,55 @@ items_end ListedItem xs k more = refl
 items_end (AlignedItem d) xs k more = refl
 
 -- a mark is for what comes behind the phrase
-factors_pass : (m : Mark) (x : Scalar) (k : Scalar → Calm) (more : List Token) → run (marked m ∷ more) (Then (MoreScalarFactors x k)) ≡ run (marked m ∷ more) (Then (k x))
+factors_pass : (m : Mark) (x : Scalar) (k : Scalar → Calm) (more : List Token) → run (marked m ∷ more) (Then (MoreScalarFactors x k))
+    ≡ run (marked m ∷ more) (Then (k x))
 factors_pass m x k more = no_star (marked m) more x k (no_times m)
 
-terms_pass : (m : Mark) (x : Scalar) (k : Scalar → Calm) (more : List Token) → run (marked m ∷ more) (Then (MoreScalarTerms x k)) ≡ run (marked m ∷ more) (Then (k x))
+terms_pass : (m : Mark) (x : Scalar) (k : Scalar → Calm) (more : List Token) → run (marked m ∷ more) (Then (MoreScalarTerms x k))
+    ≡ run (marked m ∷ more) (Then (k x))
 terms_pass m x k more = no_sign (marked m) more x k (no_plus m)
 
-expr_factors_pass : (m : Mark) (index : List ℕ) (x : Expr) (k : Expr → Calm) (more : List Token) → run (marked m ∷ more) (Then (MoreExprFactors index x k)) ≡ run (marked m ∷ more) (Then (k x))
+expr_factors_pass : (m : Mark) (index : List ℕ) (x : Expr) (k : Expr → Calm) (more : List Token)
+    → run (marked m ∷ more) (Then (MoreExprFactors index x k)) ≡ run (marked m ∷ more) (Then (k x))
 expr_factors_pass m index x k more = no_star_expr (marked m) more index x k (no_times m)
 
-expr_terms_pass : (m : Mark) (index : List ℕ) (x : Expr) (k : Expr → Calm) (more : List Token) → run (marked m ∷ more) (Then (MoreExprTerms index x k)) ≡ run (marked m ∷ more) (Then (k x))
-expr_terms_pass m index x k more = ap (λ o. after (marked m) more (run more) (step_expr_terms index x k (step_calm (k x) (sort_of (marked m).kind) origin) o)) (no_plus m)
+expr_terms_pass : (m : Mark) (index : List ℕ) (x : Expr) (k : Expr → Calm) (more : List Token)
+    → run (marked m ∷ more) (Then (MoreExprTerms index x k)) ≡ run (marked m ∷ more) (Then (k x))
+expr_terms_pass m index x k more =
+    ap (λ o. after (marked m) more (run more) (step_expr_terms index x k (step_calm (k x) (sort_of (marked m).kind) origin) o)) (no_plus m)
 
-name_passes : (m : Mark) (index name : List ℕ) (at : SourcePlace) (k : Expr → Calm) (more : List Token) → run (marked m ∷ more) (Then (AfterName index name at k)) ≡ run (marked m ∷ more) (Then (k (expr.Named name at)))
+name_passes : (m : Mark) (index name : List ℕ) (at : SourcePlace) (k : Expr → Calm) (more : List Token)
+    → run (marked m ∷ more) (Then (AfterName index name at k)) ≡ run (marked m ∷ more) (Then (k (expr.Named name at)))
 name_passes m index name at k more = no_open (marked m) more index name at k (is_shut m)
 
-subscript_passes : (m : Mark) (index name : List ℕ) (at : SourcePlace) (k : Subscript → Calm) (more : List Token) → run (marked m ∷ more) (Then (AfterSubscriptName index name at k)) ≡ run (marked m ∷ more) (Then (k (subscript.Scalar (scalar.Named name at))))
+subscript_passes : (m : Mark) (index name : List ℕ) (at : SourcePlace) (k : Subscript → Calm) (more : List Token)
+    → run (marked m ∷ more) (Then (AfterSubscriptName index name at k)) ≡ run (marked m ∷ more)
+    (Then (k (subscript.Scalar (scalar.Named name at))))
 subscript_passes m index name at k more =
     let k' : Scalar → Calm = λ x. k (subscript.Scalar x) in
     let x : Scalar = scalar.Named name at in
-    ap (λ o. after (marked m) more (run more) (step_after_subscript_name index name at k (step_calm (MoreScalarFactors x (λ y. MoreScalarTerms y k')) (sort_of (marked m).kind) origin) o)) (is_shut m)
+    ap (λ o. after (marked m) more (run more) (step_after_subscript_name index name at k
+    (step_calm (MoreScalarFactors x (λ y. MoreScalarTerms y k')) (sort_of (marked m).kind) origin) o)) (is_shut m)
     ∙ factors_pass m x (λ y. MoreScalarTerms y k') more ∙ terms_pass m x k' more
 
-offset_passes : (m : Mark) (ts : List Term) (k : List Term → Calm) (more : List Token) → run (marked m ∷ more) (Then (MoreOffset ts k)) ≡ run (marked m ∷ more) (Then (k ts))
-offset_passes m ts k more = ap (λ o. after (marked m) more (run more) (step_offset ts k origin (step_calm (k ts) (sort_of (marked m).kind) origin) o)) (no_plus m)
+offset_passes : (m : Mark) (ts : List Term) (k : List Term → Calm) (more : List Token) → run (marked m ∷ more) (Then (MoreOffset ts k))
+    ≡ run (marked m ∷ more) (Then (k ts))
+offset_passes m ts k more = ap
+    (λ o. after (marked m) more (run more) (step_offset ts k origin (step_calm (k ts) (sort_of (marked m).kind) origin) o)) (no_plus m)
 
-cyclic_passes : (m : Mark) (k : Form → Calm) (more : List Token) → run (marked m ∷ more) (Then (AfterCyclic k)) ≡ run (marked m ∷ more) (Then (k form.Cyclic))
-cyclic_passes m k more = ap (λ o. after (marked m) more (run more) (step_after_cyclic k (step_calm (k form.Cyclic) (sort_of (marked m).kind) origin) o)) (is_shut m)
+cyclic_passes : (m : Mark) (k : Form → Calm) (more : List Token) → run (marked m ∷ more) (Then (AfterCyclic k)) ≡ run (marked m ∷ more)
+    (Then (k form.Cyclic))
+cyclic_passes m k more = ap (λ o. after (marked m) more (run more)
+    (step_after_cyclic k (step_calm (k form.Cyclic) (sort_of (marked m).kind) origin) o)) (is_shut m)
 
 -- a line of a FORALL's body
 abbrev inner_tokens : List Token
-inner_tokens = word_of letter ∷ token_of kind.OpenParen ∷ zero_token ∷ token_of kind.CloseParen ∷ token_of kind.Equals ∷ zero_token ∷ token_of kind.LineEnd ∷ []
+inner_tokens = word_of letter ∷ token_of kind.OpenParen ∷ zero_token ∷ token_of kind.CloseParen ∷ token_of kind.Equals ∷ zero_token
+    ∷ token_of kind.LineEnd ∷ []
 
 abbrev inner_statement : BodyStatement
-inner_statement = inner.Assign (record { name = letter; at = origin; subscript = subscript.Scalar (scalar.Number (pos 0) origin) }) (expr.Number (pos 0))
+inner_statement = inner.Assign (record { name = letter; at = origin; subscript = subscript.Scalar (scalar.Number (pos 0) origin) })
+    (expr.Number (pos 0))
 
 is_open : Is sort.Open (token_of kind.OpenParen)
 unfolding sort_of
@@ -209,7 +231,9 @@ not_again index h = cc
 an_inner : (index : List ℕ) → AreInner index inner_tokens (inner_statement ∷ [])
 an_inner index =
     last_inner (assigned (token_of kind.Equals)
-    (element (word_of letter) (token_of kind.OpenParen) (token_of kind.CloseParen) is_letter is_open (scalar_subscript zero_token (not_again index) (scalar_term (scalar_factor (scalar_number (pos 0) zero_token is_zero)))) (is_marked mark.Close))
+    (element (word_of letter) (token_of kind.OpenParen) (token_of kind.CloseParen) is_letter is_open
+    (scalar_subscript zero_token (not_again index) (scalar_term (scalar_factor (scalar_number (pos 0) zero_token is_zero))))
+    (is_marked mark.Close))
     (is_marked mark.Equals) (expr_term (expr_factor (expr_number (pos 0) zero_token is_zero))))
     (token_of kind.LineEnd) (is_marked mark.Line) no_lines
 
@@ -227,38 +251,51 @@ zero_at = scalar.Number (pos 0) origin
 mutual
   pub ends : (s : State) → Ends s
   ends (ScalarFactor k) =
-      let r = ends_calm (k zero_at) in
-      (zero_token ∷ marked r.0 ∷ r.1, r.2, go zero_token (marked r.0 ∷ r.1) (ScalarFactor k) (Then (k zero_at)) (sort.Numbered (pos 0)) is_zero refl ∙ r.3)
+      let r = ends_calm (k zero_at) in (
+        zero_token ∷ marked r.0 ∷ r.1,
+        r.2,
+        go zero_token (marked r.0 ∷ r.1) (ScalarFactor k) (Then (k zero_at)) (sort.Numbered (pos 0))
+            is_zero refl ∙ r.3,
+      )
   ends (WholeScalar k) =
       let r = ends_calm (k zero_at) in (
         zero_token ∷ marked r.0 ∷ r.1,
         r.2,
-        go zero_token (marked r.0 ∷ r.1) (WholeScalar k) (Then (MoreScalarFactors zero_at (λ y. MoreScalarTerms y k))) (sort.Numbered (pos 0)) is_zero refl
+        go zero_token (marked r.0 ∷ r.1) (WholeScalar k) (Then (MoreScalarFactors zero_at (λ y. MoreScalarTerms y k)))
+            (sort.Numbered (pos 0)) is_zero refl
             ∙ factors_pass r.0 zero_at (λ y. MoreScalarTerms y k) r.1 ∙ terms_pass r.0 zero_at k r.1 ∙ r.3,
       )
   ends (PlacedScalar k) =
       let r = ends_calm (k origin zero_at) in (
         zero_token ∷ marked r.0 ∷ r.1,
         r.2,
-        go zero_token (marked r.0 ∷ r.1) (PlacedScalar k) (Then (MoreScalarFactors zero_at (λ y. MoreScalarTerms y (k origin)))) (sort.Numbered (pos 0)) is_zero refl
+        go zero_token (marked r.0 ∷ r.1) (PlacedScalar k) (Then (MoreScalarFactors zero_at (λ y. MoreScalarTerms y (k origin))))
+            (sort.Numbered (pos 0)) is_zero refl
             ∙ factors_pass r.0 zero_at (λ y. MoreScalarTerms y (k origin)) r.1 ∙ terms_pass r.0 zero_at (k origin) r.1 ∙ r.3,
       )
   ends (ExprFactor index k) =
-      let r = ends_calm (k (expr.Number (pos 0))) in
-      (zero_token ∷ marked r.0 ∷ r.1, r.2, go zero_token (marked r.0 ∷ r.1) (ExprFactor index k) (Then (k (expr.Number (pos 0)))) (sort.Numbered (pos 0)) is_zero refl ∙ r.3)
+      let r = ends_calm (k (expr.Number (pos 0))) in (
+        zero_token ∷ marked r.0 ∷ r.1,
+        r.2,
+        go zero_token (marked r.0 ∷ r.1) (ExprFactor index k) (Then (k (expr.Number (pos 0))))
+            (sort.Numbered (pos 0)) is_zero refl ∙ r.3,
+      )
   ends (WholeExpr index k) =
       let r = ends_calm (k (expr.Number (pos 0))) in (
         zero_token ∷ marked r.0 ∷ r.1,
         r.2,
-        go zero_token (marked r.0 ∷ r.1) (WholeExpr index k) (Then (MoreExprFactors index (expr.Number (pos 0)) (λ y. MoreExprTerms index y k))) (sort.Numbered (pos 0)) is_zero refl
-            ∙ expr_factors_pass r.0 index (expr.Number (pos 0)) (λ y. MoreExprTerms index y k) r.1 ∙ expr_terms_pass r.0 index (expr.Number (pos 0)) k r.1 ∙ r.3,
+        go zero_token (marked r.0 ∷ r.1) (WholeExpr index k)
+            (Then (MoreExprFactors index (expr.Number (pos 0)) (λ y. MoreExprTerms index y k))) (sort.Numbered (pos 0)) is_zero refl
+            ∙ expr_factors_pass r.0 index (expr.Number (pos 0)) (λ y. MoreExprTerms index y k) r.1
+            ∙ expr_terms_pass r.0 index (expr.Number (pos 0)) k r.1 ∙ r.3,
       )
   ends (InSubscript index k) =
       let r = ends_calm (k (subscript.Scalar zero_at)) in
       let k' : Scalar → Calm = λ x. k (subscript.Scalar x) in (
         zero_token ∷ marked r.0 ∷ r.1,
         r.2,
-        go zero_token (marked r.0 ∷ r.1) (InSubscript index k) (Then (MoreScalarFactors zero_at (λ y. MoreScalarTerms y k'))) (sort.Numbered (pos 0)) is_zero refl
+        go zero_token (marked r.0 ∷ r.1) (InSubscript index k) (Then (MoreScalarFactors zero_at (λ y. MoreScalarTerms y k')))
+            (sort.Numbered (pos 0)) is_zero refl
             ∙ factors_pass r.0 zero_at (λ y. MoreScalarTerms y k') r.1 ∙ terms_pass r.0 zero_at k' r.1 ∙ r.3,
       )
   ends (AnyName k) =
@@ -268,16 +305,56 @@ mutual
   ends (SameName name s) = let r = ends s in (word_of name ∷ r.0, r.1, go_again (word_of name) r.0 name s refl ∙ r.2)
   ends (Take f s) = let r = ends s in (token_of (fixed_kind f) ∷ r.0, r.1, takes f s r.0 ∙ r.2)
   ends (InForm k) =
-      let r = ends_calm (k form.Block) in
-      (word_of (codes "BLOCK") ∷ marked r.0 ∷ r.1, r.2, go (word_of (codes "BLOCK")) (marked r.0 ∷ r.1) (InForm k) (Then (k form.Block)) sort.BlockWord is_block refl ∙ r.3)
-  ends (Operator k) = let r = ends (k Add) in (word_of (codes "ADD") ∷ r.0, r.1, go (word_of (codes "ADD")) r.0 (Operator k) (k Add) sort.AddWord is_add refl ∙ r.2)
-  ends (Head ds ss k) = let r = ends (k ds ss) in (word_of (codes "END") ∷ r.0, r.1, go (word_of (codes "END")) r.0 (Head ds ss k) (k ds ss) sort.EndWord is_end refl ∙ r.2)
-  ends (Body EndOfProgram ss k) = let r = ends (k ss) in (word_of (codes "END") ∷ r.0, r.1, go (word_of (codes "END")) r.0 (Body EndOfProgram ss k) (k ss) sort.EndWord is_end refl ∙ r.2)
-  ends (Body EndOfDo ss k) = let r = ends (k ss) in (word_of (codes "ENDDO") ∷ r.0, r.1, go (word_of (codes "ENDDO")) r.0 (Body EndOfDo ss k) (k ss) sort.EndDoWord is_end_do refl ∙ r.2)
-  ends (Body EndOfForall ss k) = let r = ends (k ss) in (word_of (codes "ENDFORALL") ∷ r.0, r.1, go (word_of (codes "ENDFORALL")) r.0 (Body EndOfForall ss k) (k ss) sort.EndForallWord is_end_forall refl ∙ r.2)
-  ends (Close EndOfProgram s) = let r = ends s in (word_of (codes "END") ∷ r.0, r.1, go (word_of (codes "END")) r.0 (Close EndOfProgram s) s sort.EndWord is_end refl ∙ r.2)
-  ends (Close EndOfDo s) = let r = ends s in (word_of (codes "ENDDO") ∷ r.0, r.1, go (word_of (codes "ENDDO")) r.0 (Close EndOfDo s) s sort.EndDoWord is_end_do refl ∙ r.2)
-  ends (Close EndOfForall s) = let r = ends s in (word_of (codes "ENDFORALL") ∷ r.0, r.1, go (word_of (codes "ENDFORALL")) r.0 (Close EndOfForall s) s sort.EndForallWord is_end_forall refl ∙ r.2)
+      let r = ends_calm (k form.Block) in (
+        word_of (codes "BLOCK") ∷ marked r.0 ∷ r.1,
+        r.2,
+        go (word_of (codes "BLOCK")) (marked r.0 ∷ r.1) (InForm k) (Then (k form.Block))
+            sort.BlockWord is_block refl ∙ r.3,
+      )
+  ends (Operator k) = let r = ends (k Add) in (
+    word_of (codes "ADD") ∷ r.0,
+    r.1,
+    go (word_of (codes "ADD")) r.0 (Operator k)
+        (k Add) sort.AddWord is_add refl ∙ r.2,
+  )
+  ends (Head ds ss k) = let r = ends (k ds ss) in (
+    word_of (codes "END") ∷ r.0,
+    r.1,
+    go (word_of (codes "END")) r.0 (Head ds ss k)
+        (k ds ss) sort.EndWord is_end refl ∙ r.2,
+  )
+  ends (Body EndOfProgram ss k) = let r = ends (k ss) in
+      (word_of (codes "END") ∷ r.0, r.1, go (word_of (codes "END")) r.0 (Body EndOfProgram ss k) (k ss) sort.EndWord is_end refl ∙ r.2)
+  ends (Body EndOfDo ss k) = let r = ends (k ss) in (
+    word_of (codes "ENDDO") ∷ r.0,
+    r.1,
+    go (word_of (codes "ENDDO")) r.0
+        (Body EndOfDo ss k) (k ss) sort.EndDoWord is_end_do refl ∙ r.2,
+  )
+  ends (Body EndOfForall ss k) = let r = ends (k ss) in (
+    word_of (codes "ENDFORALL") ∷ r.0,
+    r.1,
+    go (word_of (codes "ENDFORALL")) r.0
+        (Body EndOfForall ss k) (k ss) sort.EndForallWord is_end_forall refl ∙ r.2,
+  )
+  ends (Close EndOfProgram s) = let r = ends s in (
+    word_of (codes "END") ∷ r.0,
+    r.1,
+    go (word_of (codes "END")) r.0 (Close EndOfProgram s)
+        s sort.EndWord is_end refl ∙ r.2,
+  )
+  ends (Close EndOfDo s) = let r = ends s in (
+    word_of (codes "ENDDO") ∷ r.0,
+    r.1,
+    go (word_of (codes "ENDDO")) r.0 (Close EndOfDo s) s
+        sort.EndDoWord is_end_do refl ∙ r.2,
+  )
+  ends (Close EndOfForall s) = let r = ends s in (
+    word_of (codes "ENDFORALL") ∷ r.0,
+    r.1,
+    go (word_of (codes "ENDFORALL")) r.0
+        (Close EndOfForall s) s sort.EndForallWord is_end_forall refl ∙ r.2,
+  )
   ends (FirstInner index k) =
       let r = ends (k (inner_statement ∷ [])) in (
         inner_tokens ++ word_of (codes "ENDFORALL") ∷ r.0,
@@ -285,8 +362,18 @@ mutual
         reads_first_inner (an_inner index) k (word_of (codes "ENDFORALL") ∷ r.0)
             ∙ forall_closes index (end_forall_word (word_of (codes "ENDFORALL")) is_end_forall) (inner_statement ∷ []) k r.0 ∙ r.2,
       )
-  ends (MoreInner index xs k) = let r = ends (k xs) in (word_of (codes "ENDFORALL") ∷ r.0, r.1, go (word_of (codes "ENDFORALL")) r.0 (MoreInner index xs k) (k xs) sort.EndForallWord is_end_forall refl ∙ r.2)
-  ends (Begin s) = let r = ends s in (word_of (codes "PROGRAM") ∷ r.0, r.1, go (word_of (codes "PROGRAM")) r.0 (Begin s) s sort.ProgramWord is_program_word refl ∙ r.2)
+  ends (MoreInner index xs k) = let r = ends (k xs) in (
+    word_of (codes "ENDFORALL") ∷ r.0,
+    r.1,
+    go (word_of (codes "ENDFORALL")) r.0
+        (MoreInner index xs k) (k xs) sort.EndForallWord is_end_forall refl ∙ r.2,
+  )
+  ends (Begin s) = let r = ends s in (
+    word_of (codes "PROGRAM") ∷ r.0,
+    r.1,
+    go (word_of (codes "PROGRAM")) r.0
+        (Begin s) s sort.ProgramWord is_program_word refl ∙ r.2,
+  )
   ends (Ended p) = ([], p, refl)
   ends (Then c) = let r = ends_calm c in (marked r.0 ∷ r.1, r.2, r.3)
 
@@ -295,8 +382,10 @@ mutual
   ends_calm (MoreScalarTerms x k) = let r = ends_calm (k x) in (r.0, r.1, r.2, terms_pass r.0 x k r.1 ∙ r.3)
   ends_calm (MoreExprFactors index x k) = let r = ends_calm (k x) in (r.0, r.1, r.2, expr_factors_pass r.0 index x k r.1 ∙ r.3)
   ends_calm (MoreExprTerms index x k) = let r = ends_calm (k x) in (r.0, r.1, r.2, expr_terms_pass r.0 index x k r.1 ∙ r.3)
-  ends_calm (AfterName index name at k) = let r = ends_calm (k (expr.Named name at)) in (r.0, r.1, r.2, name_passes r.0 index name at k r.1 ∙ r.3)
-  ends_calm (AfterSubscriptName index name at k) = let r = ends_calm (k (subscript.Scalar (scalar.Named name at))) in (r.0, r.1, r.2, subscript_passes r.0 index name at k r.1 ∙ r.3)
+  ends_calm (AfterName index name at k) = let r = ends_calm (k (expr.Named name at)) in
+      (r.0, r.1, r.2, name_passes r.0 index name at k r.1 ∙ r.3)
+  ends_calm (AfterSubscriptName index name at k) = let r = ends_calm (k (subscript.Scalar (scalar.Named name at))) in
+      (r.0, r.1, r.2, subscript_passes r.0 index name at k r.1 ∙ r.3)
   ends_calm (MoreOffset ts k) = let r = ends_calm (k ts) in (r.0, r.1, r.2, offset_passes r.0 ts k r.1 ∙ r.3)
   ends_calm (AfterCyclic k) = let r = ends_calm (k form.Cyclic) in (r.0, r.1, r.2, cyclic_passes r.0 k r.1 ∙ r.3)
   ends_calm (MoreItems i xs k) = let r = ends (k xs) in (mark_of i, r.0, r.1, items_end i xs k r.0 ∙ r.2)
@@ -323,10 +412,17 @@ cut_end s rest h =
     let e = none_left s rest h in
     subst (λ r. Cut [] s r) (sym e) (record { before = []; state = s; split = refl; leads = λ more. refl; stuck = h ∙ ap Err e })
 
-cut_step : (t : Token) (ts rest : List Token) (s : State) (o : Option State) → step s t.kind (sort_of t.kind) t.at ≡ o → ((s' : State) → run ts s' ≡ Err rest → Cut ts s' rest) → after t ts (run ts) o ≡ Err rest → Cut (t ∷ ts) s rest
+cut_step : (t : Token) (ts rest : List Token) (s : State) (o : Option State) → step s t.kind (sort_of t.kind) t.at ≡ o
+    → ((s' : State) → run ts s' ≡ Err rest → Cut ts s' rest) → after t ts (run ts) o ≡ Err rest → Cut (t ∷ ts) s rest
 cut_step t ts rest s (Some s') h cut e =
     let c = cut s' e in
-    record { before = t ∷ c.before; state = c.state; split = ap (λ l. t ∷ l) c.split; leads = λ more. ap (after t (c.before ++ more) (run (c.before ++ more))) h ∙ c.leads more; stuck = c.stuck }
+    record {
+      before = t ∷ c.before;
+      state = c.state;
+      split = ap (λ l. t ∷ l) c.split;
+      leads = λ more. ap (after t (c.before ++ more) (run (c.before ++ more))) h ∙ c.leads more;
+      stuck = c.stuck;
+    }
 cut_step t ts rest s None h cut e =
     let same : t ∷ ts ≡ rest = cc in
     subst (λ r. Cut (t ∷ ts) s r) same (record { before = []; state = s; split = refl; leads = λ more. refl; stuck = h })

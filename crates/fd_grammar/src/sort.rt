@@ -1,10 +1,8 @@
-ghost use Rattle.std.specs.Prelude.{◌≡◌, map};
+ghost use Rattle.std.specs.Prelude.{◌≡◌, map, bytes_eq};
 ghost use Rattle.fd_grammar.specs.Sorts.{sort_in, sort_of_word, sort_of, is_word, name_of, sign_of, times_of, opens};
-ghost use Rattle.std.specs.Prelude.{bytes_eq};
 
 use fd_lexer::TokenKind;
-use fd_syntax::Arith;
-use fd_words::Name;
+use fd_words::{Arith, Name};
 
 /// What a token is to the grammar: a reserved word, a name, a number, a sign or a line end.
 #[derive(Clone, Copy, Debug, PartialEq, Eq)]

@@ -1,9 +1,11 @@
 -- Tokens, gaps and faults of a text are the pieces that stand at the front of what is left.
-use Rattle.std.proofs.Common.{◌≡◌, ◌==◌, ℕ, suc, ◌+◌, ◌-◌, ◌<◌, ◌≤◌, Bool, true, false, cond, List, [], ◌∷◌, ◌++◌, length, take, drop, slice_range, map, ⊎_elim, Some, None, ℤ, pos, sym, ap, ◌∙◌, subst, refl, arith, length-drop, length-take}
+use Rattle.std.proofs.Common.{◌≡◌, ◌==◌, ℕ, suc, ◌+◌, ◌-◌, ◌<◌, ◌≤◌, Bool, true, false, cond, List, [], ◌∷◌, ◌++◌, length, take, drop}
+use Rattle.std.proofs.Common.{slice_range, map, ⊎_elim, Some, None, ℤ, pos, sym, ap, ◌∙◌, subst, refl, arith, length-drop, length-take}
 use Rattle.std.specs.List.{prefix_len, take_while, list_all, list_any}
 use Rattle.std.specs.Char.{is_ascii_digit, is_ascii_alphabetic, is_ascii_alphanumeric, to_ascii_uppercase}
 use Rattle.std.specs.Str.Parse.{digits_value}
-use Rattle.std.proofs.lemmas.Bool.{false_from_ne_true, eqb-true, and_parts, or_parts, or_from, or_cases, cond-true, cond-false, le-leb, lt-leb}
+use Rattle.std.proofs.lemmas.Bool.{false_from_ne_true, eqb-true, and_parts, or_parts, or_from, or_cases, cond-true, cond-false, le-leb}
+use Rattle.std.proofs.lemmas.Bool.{lt-leb}
 use Rattle.std.proofs.lemmas.Bool.Decides.{nat_tests}
 use Rattle.std.proofs.lemmas.List.{take-append-drop, drop-drop, take_at, drop_all}
 use Rattle.fd_words.specs.declared.source.SourcePlace.{SourcePlace}
@@ -12,14 +14,17 @@ use Rattle.fd_words.specs.declared.source.SourceCause.{SourceCause}
 use Rattle.fd_words.specs.declared.source.SourceCause.TheVariants.{BadByte, NumberTooLarge, NameTooLong}
 use Rattle.fd_lexer.specs.declared.token.Token.{Token}
 use Rattle.fd_lexer.specs.declared.token.TokenKind.{TokenKind}
-use Rattle.fd_lexer.specs.declared.token.TokenKind.TheVariants.{Word, Number, OpenParen, CloseParen, Comma, Equals, Plus, Minus, Star, LineEnd}
+use Rattle.fd_lexer.specs.declared.token.TokenKind.TheVariants.{Word, Number, OpenParen, CloseParen, Comma, Equals, Plus, Minus, Star}
+use Rattle.fd_lexer.specs.declared.token.TokenKind.TheVariants.{LineEnd}
 use Rattle.fd_lexer.specs.declared.piece.Opening.TheVariants.{Digit, Letter, Sign, Unlisted}
 use Rattle.fd_lexer.specs.declared.piece.Piece.{Piece}
 use Rattle.fd_lexer.specs.declared.piece.Piece.TheVariants.{Gap, Lexeme, Fault}
 use Rattle.fd_lexer.specs.Bytes.{is_blank, is_inside_line, is_word_byte, is_listed, greatest}
-use Rattle.fd_lexer.specs.Piece.{sign_of, sign_or_unlisted, opening_of, number_of, number_or_fault, number_piece, word_piece, piece_of, piece_at}
+use Rattle.fd_lexer.specs.Piece.{sign_of, sign_or_unlisted, opening_of, number_of, number_or_fault, number_piece, word_piece, piece_of}
+use Rattle.fd_lexer.specs.Piece.{piece_at}
 use Rattle.fd_lexer.specs.Place.{place_of}
-use Rattle.fd_lexer.specs.Tokens.{Ends, IsNumber, IsWord, Spells, IsGap, blank, comment, IsGapAt, IsTokenAt, ShowsFault, IsFaultAt, TokensFrom, FaultFrom, token_of, line_closed, opens_line}
+use Rattle.fd_lexer.specs.Tokens.{Ends, IsNumber, IsWord, Spells, IsGap, blank, comment, IsGapAt, IsTokenAt, ShowsFault, IsFaultAt}
+use Rattle.fd_lexer.specs.Tokens.{TokensFrom, FaultFrom, token_of, line_closed, opens_line}
 use Rattle.fd_lexer.specs.Tokens as read
 use Rattle.fd_lexer.proofs.ByPiece.{Pieces, over, line_over, gap, token, PiecesToFault, here, behind_gap, behind_token, token_at}
 use Rattle.fd_lexer.proofs.Fits.{end_place}
@@ -61,14 +66,16 @@ letter_opens b e =
 number_within : (digits : List ℕ) → digits_value 10 digits ≤ greatest → number_of digits ≡ Some (pos (digits_value 10 digits))
 number_within digits h = cond-true _ _ _ (le-leb (digits_value 10 digits) greatest h)
 
-number_back : (bytes rest : List ℕ) (value : ℤ) → IsNumber value bytes rest → number_piece (bytes ++ rest) ≡ Lexeme (Number value) (length bytes)
+number_back : (bytes rest : List ℕ) (value : ℤ) → IsNumber value bytes rest → number_piece (bytes ++ rest) ≡ Lexeme (Number value)
+    (length bytes)
 number_back bytes rest value h =
     let front = front_bytes is_ascii_digit bytes rest h.digits h.longest in
     let len = front_len is_ascii_digit bytes rest h.digits h.longest in
     let number = ap number_of front ∙ number_within bytes h.most ∙ ap Some (sym h.value_is) in
     ap (λ o. number_or_fault o (prefix_len is_ascii_digit (bytes ++ rest))) number ∙ ap (λ n. Lexeme (Number value) n) len
 
-number_spelled : (bytes rest : List ℕ) (value : ℤ) → IsNumber value bytes rest → piece_at (bytes ++ rest) ≡ Lexeme (Number value) (length bytes)
+number_spelled : (bytes rest : List ℕ) (value : ℤ) → IsNumber value bytes rest → piece_at (bytes ++ rest) ≡ Lexeme (Number value)
+    (length bytes)
 number_spelled [] rest value h = absurd (omega (arith, h.some))
 number_spelled (b ∷ bytes) rest value h =
     ap (λ o. piece_of o (b ∷ (bytes ++ rest))) (digit_opens b (and_parts _ _ h.digits).0) ∙ number_back (b ∷ bytes) rest value h
@@ -91,7 +98,8 @@ word_spelled (b ∷ bytes) rest name h =
     ap (λ o. piece_of o (b ∷ (bytes ++ rest))) (letter_opens b (first_letter b bytes h.letter)) ∙ word_back (b ∷ bytes) rest name h
 
 -- a sign is one byte
-sign_back : (kind : TokenKind) (c : ℕ) (bytes rest : List ℕ) → bytes ≡ c ∷ [] → opening_of c ≡ Sign kind → piece_at (bytes ++ rest) ≡ Lexeme kind (length bytes)
+sign_back : (kind : TokenKind) (c : ℕ) (bytes rest : List ℕ) → bytes ≡ c ∷ [] → opening_of c ≡ Sign kind
+    → piece_at (bytes ++ rest) ≡ Lexeme kind (length bytes)
 sign_back kind c bytes rest e o =
     subst (λ bs. piece_at (bs ++ rest) ≡ Lexeme kind (length bs)) (sym e) (ap (λ p. piece_of p (c ∷ rest)) o)
 
@@ -117,7 +125,8 @@ no_letter b h = grind (arith, nat_tests)
 -- a byte that isn't listed is none that is
 other_byte : (b c : ℕ) → is_listed b ≡ false → is_listed c ≡ true → (b == c) ≡ false
 other_byte b c unlisted listed =
-    false_from_ne_true (b == c) (λ e. let same = ap is_listed (eqb-true b c e) in let both : false ≡ true = sym unlisted ∙ same ∙ listed in cc)
+    false_from_ne_true (b == c) (λ e. let same = ap is_listed (eqb-true b c e) in let both : false ≡ true = sym unlisted ∙ same
+    ∙ listed in cc)
 
 skip : {A : Type 0} (t : Bool) (x y z : A) → t ≡ false → y ≡ z → cond t x y ≡ z
 skip t x y z e f = cond-false t x y e ∙ f
@@ -141,7 +150,8 @@ fault_piece : (cause : SourceCause) (b : ℕ) (more : List ℕ) → ShowsFault c
 fault_piece BadByte b more h = ap (λ o. piece_of o (b ∷ more)) (unlisted_opens b h)
 fault_piece NumberTooLarge b more h =
     ap (λ o. piece_of o (b ∷ more)) (digit_opens b h.0)
-    ∙ ap (λ o. number_or_fault o (prefix_len is_ascii_digit (b ∷ more))) (cond-false _ _ _ (lt-leb (digits_value 10 (take_while is_ascii_digit (b ∷ more))) greatest h.1))
+    ∙ ap (λ o. number_or_fault o (prefix_len is_ascii_digit (b ∷ more)))
+    (cond-false _ _ _ (lt-leb (digits_value 10 (take_while is_ascii_digit (b ∷ more))) greatest h.1))
 fault_piece NameTooLong b more h =
     ap (λ o. piece_of o (b ∷ more)) (letter_opens b h.0) ∙ cond-false _ _ _ (lt-leb (prefix_len is_word_byte (b ∷ more)) 31 h.1)
 fault_piece _ b more h = absurd h
@@ -152,7 +162,8 @@ length_slice text at to h = omega (arith, length-take (to - at) (drop at text), 
 
 slice_parts : (text : List ℕ) (at to : ℕ) → at + (to - at) ≡ to → drop at text ≡ slice_range text at to ++ drop to text
 slice_parts text at to e =
-    sym (take-append-drop (to - at) (drop at text)) ∙ ap (λ rest. slice_range text at to ++ rest) (drop-drop (to - at) at text ∙ ap (λ n. drop n text) e)
+    sym (take-append-drop (to - at) (drop at text)) ∙ ap (λ rest. slice_range text at to ++ rest) (drop-drop (to - at) at text
+    ∙ ap (λ n. drop n text) e)
 
 -- bytes are the piece at a place
 pub record IsPieceTo (text : List ℕ) (at to : ℕ) (make : ℕ → Piece) : Type 0 where
@@ -210,7 +221,8 @@ nothing_at_end text = drop_all (length text) text (omega arith)
 pieces_over : (text : List ℕ) (begun : Bool) → Pieces text (length text) begun (line_closed (length text) (place_of text) begun)
 pieces_over text false = over (ap piece_at (nothing_at_end text))
 pieces_over text true =
-    subst (λ (p : SourcePlace). Pieces text (length text) true (token_of (length text) p LineEnd 0 ∷ [])) (end_place text (length text) (nothing_at_end text))
+    subst (λ (p : SourcePlace). Pieces text (length text) true (token_of (length text) p LineEnd 0 ∷ []))
+    (end_place text (length text) (nothing_at_end text))
     (line_over (ap piece_at (nothing_at_end text)))
 
 pub pieces_from : {text : List ℕ} {at : ℕ} {begun : Bool} {ts : List Token} → TokensFrom text at begun ts → Pieces text at begun ts

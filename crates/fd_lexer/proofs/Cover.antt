@@ -1,5 +1,6 @@
 -- The pieces of a text are its tokens and gaps, and a faulty piece is a fault.
-use Rattle.std.proofs.Common.{◌≡◌, ℕ, ◌+◌, ◌-◌, ◌≤◌, Bool, true, false, List, [], ◌∷◌, length, take, drop, slice_range, sym, ap, subst, refl, arith}
+use Rattle.std.proofs.Common.{◌≡◌, ℕ, ◌+◌, ◌-◌, ◌≤◌, Bool, true, false, List, [], ◌∷◌, length, take, drop, slice_range, sym, ap, subst}
+use Rattle.std.proofs.Common.{refl, arith}
 use Rattle.std.proofs.lemmas.List.{drop-drop}
 use Rattle.fd_words.specs.declared.source.SourcePlace.{SourcePlace}
 use Rattle.fd_words.specs.declared.source.SourceFault.{SourceFault}
@@ -36,7 +37,8 @@ gap_here text at len within e = record {
       (subst (λ rest. IsGap (take len (drop at text)) rest) (drop-drop len at text) (gap_spelled len (drop at text) e));
 }
 
-token_here : (text : List ℕ) (at len : ℕ) (kind : TokenKind) → at ≤ length text → piece_at (drop at text) ≡ Lexeme kind len → IsTokenAt text at (token_at text at kind len)
+token_here : (text : List ℕ) (at len : ℕ) (kind : TokenKind) → at ≤ length text → piece_at (drop at text) ≡ Lexeme kind len
+    → IsTokenAt text at (token_at text at kind len)
 token_here text at len kind within e = record {
   start = refl;
   within = (token_fits text at len kind within e).within;
@@ -48,12 +50,14 @@ token_here text at len kind within e = record {
 nothing_more : (text : List ℕ) (at : ℕ) → at ≡ length text → TokensFrom text at false []
 nothing_more text at e = subst (λ n. TokensFrom text n false []) (sym e) read.over
 
-last_line : (text : List ℕ) (at : ℕ) → at ≡ length text → place_of (take at text) ≡ place_of text → TokensFrom text at true (token_at text at LineEnd 0 ∷ [])
+last_line : (text : List ℕ) (at : ℕ) → at ≡ length text → place_of (take at text) ≡ place_of text
+    → TokensFrom text at true (token_at text at LineEnd 0 ∷ [])
 last_line text at e p =
     subst (λ (q : SourcePlace). TokensFrom text at true (token_of at q LineEnd 0 ∷ [])) (sym p)
     (subst (λ n. TokensFrom text n true (token_of n (place_of text) LineEnd 0 ∷ [])) (sym e) read.over)
 
-pub tokens_from : {text : List ℕ} {at : ℕ} {begun : Bool} {ts : List Token} → at ≤ length text → Pieces text at begun ts → TokensFrom text at begun ts
+pub tokens_from : {text : List ℕ} {at : ℕ} {begun : Bool} {ts : List Token} → at ≤ length text → Pieces text at begun ts
+    → TokensFrom text at begun ts
 tokens_from {text} {at} within (over e) = nothing_more text at (at_end text at within (passes text at Nothing e))
 tokens_from {text} {at} within (line_over e) =
     let none = passes text at Nothing e in
@@ -61,10 +65,12 @@ tokens_from {text} {at} within (line_over e) =
 tokens_from {text} {at} within (gap len e h) =
     read.gap (at + len) (gap_here text at len within e) (tokens_from (gap_fits text at len within e).within h)
 tokens_from {text} {at} within (token kind len e h) =
-    read.token (token_at text at kind len) (token_here text at len kind within e) (tokens_from (token_fits text at len kind within e).within h)
+    read.token (token_at text at kind len) (token_here text at len kind within e)
+    (tokens_from (token_fits text at len kind within e).within h)
 
 -- the place of a fault
-shown_at : (text : List ℕ) (at : ℕ) (fault : SourceFault) (cause : SourceCause) (rest : List ℕ) → drop at text ≡ rest → piece_at rest ≡ Fault cause
+shown_at : (text : List ℕ) (at : ℕ) (fault : SourceFault) (cause : SourceCause) (rest : List ℕ) → drop at text ≡ rest
+    → piece_at rest ≡ Fault cause
     → fault ≡ record { at = place_of (take at text); cause = cause } → IsFaultAt text at fault
 shown_at text at fault cause [] e f p = absurd (let g : Nothing ≡ Fault cause = f in cc)
 shown_at text at fault cause (b ∷ more) e f p = record {
@@ -81,4 +87,5 @@ fault_from {text} {fault} {at} within (here cause e p) = read.here (shown_at tex
 fault_from {text} {fault} {at} within (behind_gap len e h) =
     read.behind_gap (at + len) (gap_here text at len within e) (fault_from (gap_fits text at len within e).within h)
 fault_from {text} {fault} {at} within (behind_token kind len e h) =
-    read.behind_token (token_at text at kind len) (token_here text at len kind within e) (fault_from (token_fits text at len kind within e).within h)
+    read.behind_token (token_at text at kind len) (token_here text at len kind within e)
+    (fault_from (token_fits text at len kind within e).within h)

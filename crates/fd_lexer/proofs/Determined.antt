@@ -1,5 +1,6 @@
 -- A text has either tokens or a first fault, and one of them.
-use Rattle.std.proofs.Common.{◌≡◌, ℕ, suc, zero, ◌+◌, ◌≤◌, Bool, true, false, List, [], ◌∷◌, length, drop, take, ◌⊎◌, inl, inr, sym, ap, ◌∙◌, subst, refl, arith}
+use Rattle.std.proofs.Common.{◌≡◌, ℕ, suc, zero, ◌+◌, ◌≤◌, Bool, true, false, List, [], ◌∷◌, length, drop, take, ◌⊎◌, inl, inr, sym, ap}
+use Rattle.std.proofs.Common.{◌∙◌, subst, refl, arith}
 use Rattle.std.proofs.lemmas.List.{drop_all}
 use Rattle.fd_words.specs.declared.source.SourcePlace.{SourcePlace}
 use Rattle.fd_words.specs.declared.source.SourceFault.{SourceFault}
@@ -38,10 +39,12 @@ same_tokens (token kind len e g) (gap len' f h) = cc
 same_tokens {text} {at} (token {ts = ts} kind len e g) (token {ts = us} kind' len' f h) =
     let same_len : len' ≡ len = cc in
     let same_kind : kind' ≡ kind = cc in
-    let rest = same_tokens g (subst (λ k. Pieces text (at + len) (opens_line k) us) same_kind (subst (λ n. Pieces text (at + n) (opens_line kind') us) same_len h)) in
+    let rest = same_tokens g (subst (λ k. Pieces text (at + len) (opens_line k) us) same_kind
+    (subst (λ n. Pieces text (at + n) (opens_line kind') us) same_len h)) in
     cc
 
-same_fault : {text : List ℕ} {fault other : SourceFault} {at : ℕ} → PiecesToFault text fault at → PiecesToFault text other at → fault ≡ other
+same_fault : {text : List ℕ} {fault other : SourceFault} {at : ℕ} → PiecesToFault text fault at → PiecesToFault text other at
+    → fault ≡ other
 same_fault (here cause e p) (here cause' f q) = let same : cause ≡ cause' = cc in cc
 same_fault (here cause e p) (behind_gap len f h) = cc
 same_fault (here cause e p) (behind_token kind len f h) = cc
@@ -56,7 +59,8 @@ same_fault {text} {fault} {other} {at} (behind_token kind len e g) (behind_token
     let same : len' ≡ len = cc in
     same_fault g (subst (λ n. PiecesToFault text other (at + n)) same h)
 
-never_both : {text : List ℕ} {fault : SourceFault} {at : ℕ} {begun : Bool} {ts : List Token} → Pieces text at begun ts → PiecesToFault text fault at → ⊥
+never_both : {text : List ℕ} {fault : SourceFault} {at : ℕ} {begun : Bool} {ts : List Token} → Pieces text at begun ts
+    → PiecesToFault text fault at → ⊥
 never_both (over e) (here cause f q) = cc
 never_both (over e) (behind_gap len f h) = cc
 never_both (over e) (behind_token kind len f h) = cc
@@ -82,18 +86,21 @@ nothing_left : (text : List ℕ) (at : ℕ) (begun : Bool) → piece_at (drop at
 nothing_left text at false e = inl ([], over e)
 nothing_left text at true e = inl (token_at text at LineEnd 0 ∷ [], line_over e)
 
-after_gap : (text : List ℕ) (at len : ℕ) (begun : Bool) → piece_at (drop at text) ≡ Gap len → Outcome text (at + len) begun → Outcome text at begun
+after_gap : (text : List ℕ) (at len : ℕ) (begun : Bool) → piece_at (drop at text) ≡ Gap len → Outcome text (at + len) begun
+    → Outcome text at begun
 after_gap text at len begun e (inl h) = inl (h.0, gap len e h.1)
 after_gap text at len begun e (inr h) = inr (h.0, behind_gap len e h.1)
 
-after_token : (text : List ℕ) (at len : ℕ) (kind : TokenKind) (begun : Bool) → piece_at (drop at text) ≡ Lexeme kind len → Outcome text (at + len) (opens_line kind) → Outcome text at begun
+after_token : (text : List ℕ) (at len : ℕ) (kind : TokenKind) (begun : Bool) → piece_at (drop at text) ≡ Lexeme kind len
+    → Outcome text (at + len) (opens_line kind) → Outcome text at begun
 after_token text at len kind begun e (inl h) = inl (token_at text at kind len ∷ h.0, token kind len e h.1)
 after_token text at len kind begun e (inr h) = inr (h.0, behind_token kind len e h.1)
 
 abbrev Later : List ℕ → ℕ → Type 0
 Later text fuel = (at : ℕ) (begun : Bool) → at ≤ length text → length text ≤ at + fuel → Outcome text at begun
 
-by_piece : (text : List ℕ) (fuel at : ℕ) (begun : Bool) (piece : Piece) → Later text fuel → at ≤ length text → length text ≤ at + suc fuel → piece_at (drop at text) ≡ piece → Outcome text at begun
+by_piece : (text : List ℕ) (fuel at : ℕ) (begun : Bool) (piece : Piece) → Later text fuel → at ≤ length text → length text ≤ at + suc fuel
+    → piece_at (drop at text) ≡ piece → Outcome text at begun
 by_piece text fuel at begun Nothing later within short e = nothing_left text at begun e
 by_piece text fuel at begun (Gap len) later within short e =
     let fits = gap_fits text at len within e in
@@ -101,13 +108,17 @@ by_piece text fuel at begun (Gap len) later within short e =
 by_piece text fuel at begun (Lexeme kind len) later within short e =
     let fits = token_fits text at len kind within e in
     after_token text at len kind begun e (later (at + len) (opens_line kind) fits.within (omega (arith, fits.some, short)))
-by_piece text fuel at begun (Fault cause) later within short e = inr (record { at = place_of (take at text); cause = cause }, here cause e refl)
+by_piece text fuel at begun (Fault cause) later within short e = inr (
+  record { at = place_of (take at text); cause = cause },
+  here cause e refl,
+)
 
 outcome : (text : List ℕ) (fuel : ℕ) → Later text fuel
 outcome text zero at begun within short = nothing_left text at begun (ap piece_at (drop_all at text (omega (arith, short))))
 outcome text (suc fuel) at begun within short = by_piece text fuel at begun _ (outcome text fuel) within short refl
 
-list_of : (text : List ℕ) → Outcome text 0 false → ((list : TokenList) × HasTokens text list) ⊎ ((fault : SourceFault) × HasFault text fault)
+list_of : (text : List ℕ) → Outcome text 0 false → ((list : TokenList) × HasTokens text list)
+    ⊎ ((fault : SourceFault) × HasFault text fault)
 list_of text (inl h) = inl (record { tokens = h.0; end = place_of text }, record { tokens = tokens_from (omega arith) h.1; end = refl })
 list_of text (inr h) = inr (h.0, fault_from (omega arith) h.1)
 

@@ -32,12 +32,14 @@ fits text at len within h = record { some = h.0; within = omega (arith, h.1, len
 pub gap_fits : (text : List ℕ) (at len : ℕ) → at ≤ length text → piece_at (drop at text) ≡ Gap len → Fits text at len
 gap_fits text at len within e = fits text at len within (gap_within (drop at text) len (passes text at (Gap len) e))
 
-pub token_fits : (text : List ℕ) (at len : ℕ) (kind : TokenKind) → at ≤ length text → piece_at (drop at text) ≡ Lexeme kind len → Fits text at len
+pub token_fits : (text : List ℕ) (at len : ℕ) (kind : TokenKind) → at ≤ length text → piece_at (drop at text) ≡ Lexeme kind len
+    → Fits text at len
 token_fits text at len kind within e =
     fits text at len within (token_within (opens_line kind) len (drop at text) (passes text at (Lexeme kind len) e))
 
 -- lines and columns are small where the text is
-pub place_fits : (text : List ℕ) (at : ℕ) (place : SourcePlace) → at ≤ length text → place ≡ place_of (take at text) → (place.line ≤ 1 + at) × (place.column ≤ 1 + at)
+pub place_fits : (text : List ℕ) (at : ℕ) (place : SourcePlace) → at ≤ length text → place ≡ place_of (take at text)
+    → (place.line ≤ 1 + at) × (place.column ≤ 1 + at)
 place_fits text at place within e =
     let bound = place_of-le (take at text) in
     let len = length-take-le at text within in

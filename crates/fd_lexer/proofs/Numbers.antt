@@ -1,5 +1,6 @@
 -- The number that digits write grows with each digit.
-use Rattle.std.proofs.Common.{◌≡◌, ℕ, ◌+◌, ◌*◌, ◌-◌, ◌<◌, ◌≤◌, Bool, true, List, [], ◌∷◌, ◌++◌, length, take, drop, get_or, Option, Some, None, pos, nat_le, if◌then◌else◌, ℤ, sym, ap, ◌∙◌, refl, arith}
+use Rattle.std.proofs.Common.{◌≡◌, ℕ, ◌+◌, ◌*◌, ◌-◌, ◌<◌, ◌≤◌, Bool, true, List, [], ◌∷◌, ◌++◌, length, take, drop, get_or, Option, Some}
+use Rattle.std.proofs.Common.{None, pos, nat_le, if◌then◌else◌, ℤ, sym, ap, ◌∙◌, refl, arith}
 use Rattle.std.proofs.lemmas.Bool.Decides.{nat_tests}
 use Rattle.std.specs.List.{prefix_len}
 use Rattle.std.proofs.lemmas.List.{take-append-drop, length-take, get_or-take}
@@ -27,18 +28,21 @@ value-take-le ds i =
 none_over : (v : ℕ) → greatest < v → let r : Option ℤ = if nat_le v greatest then Some (pos v) else None in r ≡ None
 none_over v h = grind (arith, nat_tests)
 
-pub number_of-over : (ds : List ℕ) (i : ℕ) → i < length ds → greatest < digits_value 10 (take i ds) * 10 + digit_value (get_or ds i 0) → number_of ds ≡ None
+pub number_of-over : (ds : List ℕ) (i : ℕ) → i < length ds → greatest < digits_value 10 (take i ds) * 10 + digit_value (get_or ds i 0)
+    → number_of ds ≡ None
 number_of-over ds i within over =
     none_over (digits_value 10 ds) (omega (arith, digits_value_more 10 ds i within, value-take-le ds (i + 1), over))
 
 pub digit_value-is : (c : ℕ) → is_ascii_digit c ≡ true → digit_value c ≡ c - 48
 digit_value-is c h = grind (arith, nat_tests)
 
-pub value_more : (ds : List ℕ) (i : ℕ) → i < length ds → digits_value 10 (take (i + 1) ds) ≡ digits_value 10 (take i ds) * 10 + digit_value (get_or ds i 0)
+pub value_more : (ds : List ℕ) (i : ℕ) → i < length ds → digits_value 10 (take (i + 1) ds) ≡ digits_value 10 (take i ds) * 10
+    + digit_value (get_or ds i 0)
 value_more ds i within = digits_value_more 10 ds i within
 
 -- each byte of the longest front of digits is a digit
-pub front_passes : (p : ℕ → Bool) (text : List ℕ) (k : ℕ) → k < length (take (prefix_len p text) text) → p (get_or (take (prefix_len p text) text) k 0) ≡ true
+pub front_passes : (p : ℕ → Bool) (text : List ℕ) (k : ℕ) → k < length (take (prefix_len p text) text)
+    → p (get_or (take (prefix_len p text) text) k 0) ≡ true
 front_passes p text k h =
     let within : k < prefix_len p text = omega (arith, length-take (prefix_len p text) text, h) in
     ap p (get_or-take (prefix_len p text) text k 0 within) ∙ prefix_len_passes p text k 0 within

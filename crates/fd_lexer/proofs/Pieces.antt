@@ -1,5 +1,6 @@
 -- What a piece has at the front of a text: some bytes, within it, and in one line but for a line end.
-use Rattle.std.proofs.Common.{◌≡◌, ◌==◌, ℕ, ◌<◌, ◌≤◌, Bool, true, false, List, [], ◌∷◌, length, take, Option, Some, None, ℤ, nat_le, sym, subst, refl, arith, ⊎_elim}
+use Rattle.std.proofs.Common.{◌≡◌, ◌==◌, ℕ, ◌<◌, ◌≤◌, Bool, true, false, List, [], ◌∷◌, length, take, Option, Some, None, ℤ, nat_le, sym}
+use Rattle.std.proofs.Common.{subst, refl, arith, ⊎_elim}
 use Rattle.std.specs.List.{prefix_len, take_while, list_all}
 use Rattle.std.specs.Char.{is_ascii_digit, is_ascii_alphabetic}
 use Rattle.std.proofs.lemmas.Bool.{cond_both, and_from, cases_Bool, eqb-true, not_from_false}
@@ -28,7 +29,8 @@ Passes (Gap len) rest = StaysInLine len rest
 Passes (Lexeme kind len) rest = PassesToken (opens_line kind) len rest
 Passes (Fault cause) rest = Unit {0}
 
-front_inside : (p : ℕ → Bool) → ((b : ℕ) → p b ≡ true → is_inside_line b ≡ true) → (xs : List ℕ) → list_all is_inside_line (take_while p xs) ≡ true
+front_inside : (p : ℕ → Bool) → ((b : ℕ) → p b ≡ true → is_inside_line b ≡ true) → (xs : List ℕ)
+    → list_all is_inside_line (take_while p xs) ≡ true
 front_inside p inside [] = refl
 front_inside p inside (x ∷ xs) =
     subst (λ ys. list_all is_inside_line ys ≡ true) (sym (take_while-cons p x xs))
@@ -38,7 +40,8 @@ front_inside p inside (x ∷ xs) =
 front_some : (p : ℕ → Bool) (b : ℕ) (more : List ℕ) → p b ≡ true → 0 < prefix_len p (b ∷ more)
 front_some p b more e = rw e (omega arith)
 
-front_stays : (p : ℕ → Bool) → ((b : ℕ) → p b ≡ true → is_inside_line b ≡ true) → (b : ℕ) (more : List ℕ) → p b ≡ true → StaysInLine (prefix_len p (b ∷ more)) (b ∷ more)
+front_stays : (p : ℕ → Bool) → ((b : ℕ) → p b ≡ true → is_inside_line b ≡ true) → (b : ℕ) (more : List ℕ) → p b ≡ true
+    → StaysInLine (prefix_len p (b ∷ more)) (b ∷ more)
 front_stays p inside b more e = record {
   some = front_some p b more e;
   within = prefix_len-le-length p (b ∷ more);
@@ -87,7 +90,8 @@ module _ (b : ℕ) (more : List ℕ) (inside : is_inside_line b ≡ true) where
   inner_passes other =
       cond_both (is_blank b) _ _ Opens (λ _. one_stays b more inside) (λ _.
       cond_both (is_ascii_digit b) _ _ Opens (λ e. number_passes _ _ (b ∷ more) (front_stays is_ascii_digit digit_inside b more e)) (λ _.
-      cond_both (is_ascii_alphabetic b) _ _ Opens (λ e. word_passes (b ∷ more) (front_stays is_word_byte word_inside b more (letter_in_word b e))) (λ _.
+      cond_both (is_ascii_alphabetic b) _ _ Opens
+      (λ e. word_passes (b ∷ more) (front_stays is_word_byte word_inside b more (letter_in_word b e))) (λ _.
       cond_both (b == 33) _ _ Opens (λ _. front_stays is_inside_line (λ _ e. e) b more inside) (λ _. sign_passes other))))
 
 pub piece_at-passes : (rest : List ℕ) → Passes (piece_at rest) rest

@@ -1,5 +1,6 @@
 -- Lines and columns along a text.
-use Rattle.std.proofs.Common.{◌≡◌, ℕ, ◌+◌, ◌-◌, ◌≤◌, Bool, true, false, cond, List, [], ◌∷◌, ◌++◌, length, take, drop, sym, ap, ◌∙◌, refl, arith, append-nil, append_assoc, length-drop}
+use Rattle.std.proofs.Common.{◌≡◌, ℕ, ◌+◌, ◌-◌, ◌≤◌, Bool, true, false, cond, List, [], ◌∷◌, ◌++◌, length, take, drop, sym, ap, ◌∙◌, refl}
+use Rattle.std.proofs.Common.{arith, append-nil, append_assoc, length-drop}
 use Rattle.std.specs.List.{prefix_len, suffix_len, after_last, list_all}
 use Rattle.std.proofs.lemmas.Bool.{and_parts, cond-true, cond-false, not-true}
 use Rattle.std.proofs.lemmas.List.{reverse-append, take-append-drop, take-take, drop-take, length-take-le}
@@ -12,7 +13,8 @@ use Rattle.fd_lexer.proofs.Pieces.{PassesToken}
 length-after_last : (xs : List ℕ) → length (after_last is_line_end xs) ≡ suffix_len is_inside_line xs
 length-after_last xs = omega (arith, length-drop (length xs - suffix_len is_inside_line xs) xs, suffix_len-le-length is_inside_line xs)
 
-suffix_push : (before : List ℕ) (b : ℕ) → suffix_len is_inside_line (before ++ b ∷ []) ≡ cond (is_inside_line b) (1 + suffix_len is_inside_line before) 0
+suffix_push : (before : List ℕ) (b : ℕ) → suffix_len is_inside_line (before ++ b ∷ []) ≡ cond (is_inside_line b)
+    (1 + suffix_len is_inside_line before) 0
 suffix_push before b = ap (prefix_len is_inside_line) (reverse-append before (b ∷ []))
 
 same_place : (l m c d : ℕ) → l ≡ m → c ≡ d → let p : SourcePlace = record { line = l; column = c } in p ≡ record { line = m; column = d }
@@ -34,9 +36,13 @@ place_line_end before =
     same_place _ _ _ _ (omega (arith, lines)) (omega (arith, columns))
 
 pub place_of-le : (xs : List ℕ) → ((place_of xs).line ≤ 1 + length xs) × ((place_of xs).column ≤ 1 + length xs)
-place_of-le xs = (omega (arith, count_by-le-length is_line_end xs), omega (arith, length-after_last xs, suffix_len-le-length is_inside_line xs))
+place_of-le xs = (
+  omega (arith, count_by-le-length is_line_end xs),
+  omega (arith, length-after_last xs, suffix_len-le-length is_inside_line xs),
+)
 
-pub place_stays : (before xs : List ℕ) → list_all is_inside_line xs ≡ true → place_of (before ++ xs) ≡ passed true (place_of before) (length xs)
+pub place_stays : (before xs : List ℕ) → list_all is_inside_line xs ≡ true → place_of (before ++ xs) ≡ passed true (place_of before)
+    (length xs)
 place_stays before [] e = ap place_of (append-nil before) ∙ same_place _ _ _ _ refl (omega arith)
 place_stays before (x ∷ xs) e =
     let parts = and_parts _ _ e in
@@ -54,7 +60,8 @@ take_more_bytes text at n =
     cc
 
 -- the place behind a token or a gap
-pub next_place : (text : List ℕ) (at n : ℕ) (begun : Bool) → PassesToken begun n (drop at text) → place_of (take (at + n) text) ≡ passed begun (place_of (take at text)) n
+pub next_place : (text : List ℕ) (at n : ℕ) (begun : Bool) → PassesToken begun n (drop at text) → place_of (take (at + n) text)
+    ≡ passed begun (place_of (take at text)) n
 next_place text at n true s =
     ap place_of (take_more_bytes text at n) ∙ place_stays (take at text) (take n (drop at text)) s.inside
     ∙ ap (passed true (place_of (take at text))) (length-take-le n (drop at text) s.within)

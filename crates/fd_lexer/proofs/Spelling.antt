@@ -1,5 +1,6 @@
 -- What the piece at the front is, in the words of the definition.
-use Rattle.std.proofs.Common.{◌≡◌, ◌==◌, ℕ, suc, ◌+◌, Bool, true, false, List, [], ◌∷◌, length, take, drop, Option, Some, None, pos, nat_le, sym, ap, ◌∙◌, subst, refl, arith}
+use Rattle.std.proofs.Common.{◌≡◌, ◌==◌, ℕ, suc, ◌+◌, Bool, true, false, List, [], ◌∷◌, length, take, drop, Option, Some, None, pos, nat_le}
+use Rattle.std.proofs.Common.{sym, ap, ◌∙◌, subst, refl, arith}
 use Rattle.std.specs.List.{prefix_len, take_while, list_all}
 use Rattle.std.specs.Char.{is_ascii_digit, is_ascii_alphabetic, is_ascii_alphanumeric}
 use Rattle.std.specs.Str.Parse.{digits_value}
@@ -21,7 +22,8 @@ front_ends : (p : ℕ → Bool) (xs : List ℕ) → Ends p (drop (prefix_len p x
 front_ends p [] = tt
 front_ends p (x ∷ xs) =
     cond_both (p x) (1 + prefix_len p xs) 0 (λ n. Ends p (drop n (x ∷ xs)))
-    (λ _. let one : 1 + prefix_len p xs ≡ suc (prefix_len p xs) = omega arith in subst (λ n. Ends p (drop n (x ∷ xs))) (sym one) (front_ends p xs))
+    (λ _. let one : 1 + prefix_len p xs ≡ suc (prefix_len p xs) = omega arith in subst (λ n. Ends p (drop n (x ∷ xs))) (sym one)
+    (front_ends p xs))
     (λ e. e)
 
 front_passes : (p : ℕ → Bool) (xs : List ℕ) → list_all p (take_while p xs) ≡ true
@@ -71,7 +73,8 @@ word_spelled b more letter =
     })
     (λ long. (letter, leb-false len 31 long))
 
-comment_spelled : (b : ℕ) (more : List ℕ) → (b == 33) ≡ true → is_inside_line b ≡ true → IsSpelled (Gap (prefix_len is_inside_line (b ∷ more))) b (b ∷ more)
+comment_spelled : (b : ℕ) (more : List ℕ) → (b == 33) ≡ true → is_inside_line b ≡ true
+    → IsSpelled (Gap (prefix_len is_inside_line (b ∷ more))) b (b ∷ more)
 comment_spelled b more e inside =
     let front = front_first is_inside_line b more inside ∙ ap (λ c. c ∷ take_while is_inside_line more) (eqb-true b 33 e) in
     subst (λ bytes. IsGap bytes (drop (prefix_len is_inside_line (b ∷ more)) (b ∷ more))) (sym front)
@@ -102,15 +105,18 @@ module _ (b : ℕ) (more : List ℕ) where
       cond_both (b == 44) _ _ OpenedSign (one 44) (λ e6.
       cond_both (b == 45) _ _ OpenedSign (one 45) (λ e7.
       cond_both (b == 61) _ _ OpenedSign (one 61) (λ e8.
-      or_from _ _ (not_alphanumeric b digit letter) (or_from _ _ tabs.0 (or_from _ _ e1 (or_from _ _ tabs.1 (or_from _ _ blanks.1 (or_from _ _ e33
-      (or_from _ _ e2 (or_from _ _ e3 (or_from _ _ e4 (or_from _ _ e5 (or_from _ _ e6 (or_from _ _ e7 (or_from _ _ e8 refl))))))))))))))))))))
+      or_from _ _ (not_alphanumeric b digit letter)
+      (or_from _ _ tabs.0 (or_from _ _ e1 (or_from _ _ tabs.1 (or_from _ _ blanks.1 (or_from _ _ e33
+      (or_from _ _ e2 (or_from _ _ e3
+      (or_from _ _ e4 (or_from _ _ e5 (or_from _ _ e6 (or_from _ _ e7 (or_from _ _ e8 refl))))))))))))))))))))
 
   opening_spelled : Opened (opening_of b)
   opening_spelled =
       cond_both (is_blank b) _ _ Opened (λ e. blank b e) (λ e1.
       cond_both (is_ascii_digit b) _ _ Opened (number_spelled b more) (λ e2.
       cond_both (is_ascii_alphabetic b) _ _ Opened (word_spelled b more) (λ e3.
-      cond_both (b == 33) _ _ Opened (λ e. comment_spelled b more e (subst (λ c. is_inside_line c ≡ true) (sym (eqb-true b 33 e)) refl)) (λ e4. sign_spelled e1 e2 e3 e4))))
+      cond_both (b == 33) _ _ Opened (λ e. comment_spelled b more e (subst (λ c. is_inside_line c ≡ true) (sym (eqb-true b 33 e)) refl))
+      (λ e4. sign_spelled e1 e2 e3 e4))))
 
 pub piece_spelled : (b : ℕ) (more : List ℕ) → IsSpelled (piece_at (b ∷ more)) b (b ∷ more)
 piece_spelled b more = opening_spelled b more

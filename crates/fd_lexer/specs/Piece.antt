@@ -5,7 +5,8 @@ use Rattle.std.specs.Char.{is_ascii_digit, is_ascii_alphabetic, to_ascii_upperca
 use Rattle.std.specs.Str.Parse.{digits_value}
 use Rattle.fd_words.specs.declared.source.SourceCause.TheVariants.{BadByte, NumberTooLarge, NameTooLong}
 use Rattle.fd_lexer.specs.declared.token.TokenKind.{TokenKind}
-use Rattle.fd_lexer.specs.declared.token.TokenKind.TheVariants.{Word, Number, OpenParen, CloseParen, Comma, Equals, Plus, Minus, Star, LineEnd}
+use Rattle.fd_lexer.specs.declared.token.TokenKind.TheVariants.{Word, Number, OpenParen, CloseParen, Comma, Equals, Plus, Minus, Star}
+use Rattle.fd_lexer.specs.declared.token.TokenKind.TheVariants.{LineEnd}
 use Rattle.fd_lexer.specs.Bytes.{is_blank, is_inside_line, is_word_byte, greatest}
 use Rattle.fd_lexer.specs.declared.piece.Opening.{Opening}
 use Rattle.fd_lexer.specs.declared.piece.Opening.TheVariants.{Blank, Comment, Digit, Letter, Sign, Unlisted}

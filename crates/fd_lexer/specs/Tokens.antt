@@ -1,5 +1,6 @@
 -- The tokens of a text, and its first fault.
-use Rattle.std.specs.Prelude.{◌≡◌, ℕ, ℤ, pos, ◌+◌, ◌<◌, ◌≤◌, Bool, true, false, if◌then◌else◌, List, [], ◌∷◌, length, take, drop, map, slice_range, Result, Ok, Err}
+use Rattle.std.specs.Prelude.{◌≡◌, ℕ, ℤ, pos, ◌+◌, ◌<◌, ◌≤◌, Bool, true, false, if◌then◌else◌, List, [], ◌∷◌, length, take, drop, map}
+use Rattle.std.specs.Prelude.{slice_range, Result, Ok, Err}
 use Rattle.std.specs.List.{prefix_len, take_while, list_any, list_all}
 use Rattle.std.specs.Char.{is_ascii_digit, is_ascii_alphabetic, to_ascii_uppercase}
 use Rattle.std.specs.Str.Parse.{digits_value}
@@ -12,7 +13,8 @@ use Rattle.fd_words.specs.declared.source.SourceStop.TheVariants as stop
 use Rattle.fd_lexer.specs.declared.token.Token.{Token}
 use Rattle.fd_lexer.specs.declared.token.TokenList.{TokenList}
 use Rattle.fd_lexer.specs.declared.token.TokenKind.{TokenKind}
-use Rattle.fd_lexer.specs.declared.token.TokenKind.TheVariants.{Word, Number, OpenParen, CloseParen, Comma, Equals, Plus, Minus, Star, LineEnd}
+use Rattle.fd_lexer.specs.declared.token.TokenKind.TheVariants.{Word, Number, OpenParen, CloseParen, Comma, Equals, Plus, Minus, Star}
+use Rattle.fd_lexer.specs.declared.token.TokenKind.TheVariants.{LineEnd}
 use Rattle.fd_lexer.specs.Bytes.{is_blank, is_inside_line, is_word_byte, is_listed, greatest}
 use Rattle.fd_lexer.specs.Place.{place_of}
 

@@ -1,3 +1,3 @@
 pub mod Files
 pub mod Loads
-pub mod Lines
+pub mod LoadLaws

@@ -2,9 +2,7 @@
 #![tactic(auto)]
 
 mod file;
-mod line;
 mod store;
 
-pub use file::{FileStop, file_name, read_file};
-pub use line::{fault_line, unread_line};
+pub use file::file_name;
 pub use store::{LoadStop, array_at, load};

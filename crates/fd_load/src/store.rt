@@ -2,10 +2,12 @@ ghost use Rattle.std.specs.Prelude.{◌≡◌, ◌+◌, ◌*◌, ◌≤◌, leng
 ghost use Rattle.fd_outside.specs.Causes.{NoneFell};
 ghost use Rattle.fd_program.specs.Stores.{array_at, zeros_of};
 ghost use Rattle.chaos_dist.specs.Homes.{natural};
+ghost use Rattle.fd_edge.specs.Readings.{files_read};
 ghost use Rattle.fd_load.specs.Loads.{IsFilled, IsLoaded};
 
-use crate::file::{FileStop, read_file};
+use crate::file::read_file;
 use fd_data::DataFault;
+use fd_edge::FileStop;
 use fd_outside::Files;
 use fd_program::{ArrayFacts, Checked, Store};
 use fd_words::{Memory, Name, Numbers};
@@ -67,7 +69,7 @@ fn fill<F: Files>(
     number: i64,
     store: &mut Store,
 ) -> Result<(), LoadStop>
-    ensures filled { IsFilled (F.contents files.old) (F.faults files.old) (F.faults files.new) checked.now number store.old store.new result }
+    ensures filled { IsFilled (files_read F.contents F.faults files.old files.new) checked.now number store.old store.new result }
     ensures contents { F.contents files.new ≡ F.contents files.old }
     ensures faults { NoneFell (F.faults files.old) (F.faults files.new) }
     ensures reads { F.reads files.new ≤ F.reads files.old + 33554434 }
@@ -88,7 +90,7 @@ fn fill<F: Files>(
 /// The store before the run: reads the file of each array that is read, in order, up to the first that can't be read
 /// or has a fault. The file of array X is `x.csv`, its numbers one a record.
 pub fn load<F: Files>(alloc: Global, files: &mut F, checked: &Checked) -> Result<Store, LoadStop>
-    ensures loaded { IsLoaded (F.contents files.old) (F.faults files.old) (F.faults files.new) checked.now result }
+    ensures loaded { IsLoaded (files_read F.contents F.faults files.old files.new) checked.now result }
     ensures contents { F.contents files.new ≡ F.contents files.old }
     ensures faults { NoneFell (F.faults files.old) (F.faults files.new) }
     ensures reads { F.reads files.new ≤ F.reads files.old + length checked.now.reads * 33554434 }

@@ -11,12 +11,14 @@ use Rattle.fd_scope.specs.declared.head.Head.{Head}
 use Rattle.fd_loops.specs.declared.draft.Draft.{Draft}
 use Rattle.fd_loops.specs.declared.draft.Target.{Target}
 use Rattle.fd_resolve.specs.declared.around.Around.{Around}
-use Rattle.fd_loops.specs.Bodies.{after_expr, resolved_expr, expr_faults, plain_faults, checked_body, behind_target, with_body, after_written, written_faults}
+use Rattle.fd_loops.specs.Bodies.{after_expr, resolved_expr, expr_faults, plain_faults, checked_body, behind_target, with_body}
+use Rattle.fd_loops.specs.Bodies.{after_written, written_faults}
 use Rattle.fd_loops.specs.Drafts.{after_target, clash_faults}
 use Rattle.fd_loops.specs.Elements.{after_element, element_number, element_faults}
 
 module _ (h : Head) (a : Around) (index : List ℕ) (operator : Option Combine) (target : Element) (value : Expr) where
-  behind : (d one two : Draft) → one ≡ after_target d target.name operator → two ≡ after_element h a role.Target one target → two ≡ behind_target h a operator d target
+  behind : (d one two : Draft) → one ≡ after_target d target.name operator → two ≡ after_element h a role.Target one target
+      → two ≡ behind_target h a operator d target
   behind d one two e1 e2 = e2 ∙ ap (λ z. after_element h a role.Target z target) e1
 
   pub written_draft : (d one two three : Draft) (n : ℕ) (v : CheckedExpr) (s : CheckedBody)
@@ -27,7 +29,8 @@ module _ (h : Head) (a : Around) (index : List ℕ) (operator : Option Combine) 
       ap (λ x. with_body x s) (e3 ∙ ap (λ z. after_expr h a index z value) (behind d one two e1 e2))
       ∙ ap (with_body (after_expr h a index (behind_target h a operator d target) value))
       (es ∙ ap (λ k. checked_body operator k v) (en ∙ ap (λ z. element_number h a z target) e1)
-      ∙ ap (checked_body operator (element_number h a (after_target d target.name operator) target)) (ev ∙ ap (λ z. resolved_expr h a index z value) (behind d one two e1 e2)))
+      ∙ ap (checked_body operator (element_number h a (after_target d target.name operator) target)) (ev
+      ∙ ap (λ z. resolved_expr h a index z value) (behind d one two e1 e2)))
 
   pub written_noted : (d one two : Draft) (targets : List Target) (start first second third last : List SourceFault)
       → one ≡ after_target d target.name operator → two ≡ after_element h a role.Target one target → targets ≡ d.targets

@@ -8,7 +8,7 @@ use Rattle.fd_words.specs.declared.place.Role.TheVariants as role
 use Rattle.fd_words.specs.declared.source.SourcePlace.{SourcePlace}
 use Rattle.fd_words.specs.declared.source.SourceCause.TheVariants as cause
 use Rattle.fd_words.specs.declared.source.SourceFault.{SourceFault}
-use Rattle.fd_syntax.specs.declared.scalar.Arith.{Arith}
+use Rattle.fd_words.specs.declared.arith.Arith.{Arith}
 use Rattle.fd_syntax.specs.declared.expr.Element.{Element}
 use Rattle.fd_syntax.specs.declared.expr.Expr.{Expr, Number, Named, Read, Negate', Binary', more_of-Expr, end_of-Expr}
 use Rattle.fd_syntax.specs.declared.expr.Expr as expr
@@ -91,7 +91,8 @@ with_body d s = record d { body = d.body ++ s ∷ [] }
 abbrev pub after_written : Head → Around → List ℕ → Option Combine → Element → Expr → Draft → Draft
 after_written h a index operator target value d =
     with_body (after_expr h a index (behind_target h a operator d target) value)
-    (checked_body operator (element_number h a (after_target d target.name operator) target) (resolved_expr h a index (behind_target h a operator d target) value))
+    (checked_body operator (element_number h a (after_target d target.name operator) target)
+    (resolved_expr h a index (behind_target h a operator d target) value))
 
 abbrev pub written_faults : Head → Around → List ℕ → Option Combine → Element → Expr → Draft → List SourceFault
 written_faults h a index operator target value d =
@@ -110,7 +111,8 @@ body_faults h a index d (statement.Reduce operator target value) = written_fault
 
 -- ---- the same, at the variants as code writes them
 
-pub after_expr-Negate : (h : Head) (a : Around) (index : List ℕ) (d : Draft) (inner : Expr) → after_expr h a index d (expr.Negate inner) ≡ after_expr h a index d inner
+pub after_expr-Negate : (h : Head) (a : Around) (index : List ℕ) (d : Draft) (inner : Expr) → after_expr h a index d (expr.Negate inner)
+    ≡ after_expr h a index d inner
 unfolding shape-the_row-Expr-0 hidden-the_row-Expr-0 hidden
 after_expr-Negate h a index d inner = refl
 
@@ -130,11 +132,13 @@ pub resolved_expr-Binary : (h : Head) (a : Around) (index : List ℕ) (d : Draft
 unfolding shape-the_row-Expr-0 hidden-the_row-Expr-0 shape-the_row-CheckedExpr-0 hidden-the_row-CheckedExpr-0 hidden
 resolved_expr-Binary h a index d op left right = refl
 
-pub expr_faults-Negate : (h : Head) (a : Around) (index : List ℕ) (d : Draft) (inner : Expr) → expr_faults h a index d (expr.Negate inner) ≡ expr_faults h a index d inner
+pub expr_faults-Negate : (h : Head) (a : Around) (index : List ℕ) (d : Draft) (inner : Expr) → expr_faults h a index d (expr.Negate inner)
+    ≡ expr_faults h a index d inner
 unfolding shape-the_row-Expr-0 hidden-the_row-Expr-0 hidden
 expr_faults-Negate h a index d inner = refl
 
 pub expr_faults-Binary : (h : Head) (a : Around) (index : List ℕ) (d : Draft) (op : Arith) (left right : Expr)
-    → expr_faults h a index d (expr.Binary op left right) ≡ expr_faults h a index d left ++ expr_faults h a index (after_expr h a index d left) right
+    → expr_faults h a index d (expr.Binary op left right) ≡ expr_faults h a index d left ++ expr_faults h a index
+    (after_expr h a index d left) right
 unfolding shape-the_row-Expr-0 hidden-the_row-Expr-0 hidden
 expr_faults-Binary h a index d op left right = refl

@@ -1,5 +1,6 @@
 -- A FORALL as far as its body is through: its references, their stamps, and its targets.
-use Rattle.std.specs.Prelude.{ℕ, ◌+◌, ℤ, Bool, true, false, ◌&&◌, ◌==◌, not, if◌then◌else◌, List, [], ◌∷◌, ◌++◌, length, slice_get, slice_set, unwrap_or, Option, Some, None, is_some, find, nat_le}
+use Rattle.std.specs.Prelude.{ℕ, ◌+◌, ℤ, Bool, true, false, ◌&&◌, ◌==◌, not, if◌then◌else◌, List, [], ◌∷◌, ◌++◌, length, slice_get}
+use Rattle.std.specs.Prelude.{slice_set, unwrap_or, Option, Some, None, is_some, find, nat_le}
 use Rattle.std.specs.Cmp.Lexicographic.{pointwise}
 use Rattle.std.specs.List.{list_any}
 use Rattle.std.specs.Option.{option_map}
@@ -71,12 +72,18 @@ stamp_for d decomposition offset marks = stamp_or_next (stamp_in d.stamped decom
 abbrev pub with_stamp : Draft → ℕ → ℤ → List Mark → Draft
 with_stamp d decomposition offset marks =
     if is_worn d.used decomposition then d else record d {
-      stamped = d.stamped ++ record { decomposition = decomposition; offset = offset; marks = marks; stamp = used_at d.used decomposition } ∷ [];
+      stamped = d.stamped ++ record {
+        decomposition = decomposition;
+        offset = offset;
+        marks = marks;
+        stamp = used_at d.used decomposition;
+      } ∷ [];
       used = slice_set d.used decomposition (used_at d.used decomposition + 1);
     }
 
 abbrev pub after_stamp : Draft → ℕ → ℤ → List Mark → Draft
-after_stamp d decomposition offset marks = if is_some (stamp_in d.stamped decomposition offset marks) then d else with_stamp d decomposition offset marks
+after_stamp d decomposition offset marks = if is_some (stamp_in d.stamped decomposition offset marks) then d
+    else with_stamp d decomposition offset marks
 
 -- TooManyStamps: a new one is needed, and 128 are used
 abbrev pub stamp_faults : Draft → ℕ → ℤ → List Mark → SourcePlace → List SourceFault
@@ -114,8 +121,12 @@ abbrev pub clash_faults : List Target → List ℕ → Option Combine → Source
 clash_faults targets name None at =
     fault_if (is_assigned targets name) at (cause.TwoAssigns name) ++ fault_if (is_reduced targets name) at (cause.AssignAndReduce name)
 clash_faults targets name (Some operator) at =
-    fault_if (is_assigned targets name) at (cause.AssignAndReduce name) ++ fault_if (is_reduced_otherwise targets name operator) at (cause.TwoOperators name)
+    fault_if (is_assigned targets name) at (cause.AssignAndReduce name) ++ fault_if (is_reduced_otherwise targets name operator) at
+    (cause.TwoOperators name)
 
 -- a target is kept as long as its references are
 abbrev pub after_target : Draft → List ℕ → Option Combine → Draft
-after_target d name operator = if is_crowded d then d else record d { targets = d.targets ++ record { name = name; operator = operator } ∷ [] }
+after_target d name operator = if is_crowded d then d else record d {
+  targets = d.targets ++ record { name = name; operator = operator }
+      ∷ [];
+}

@@ -1,7 +1,8 @@
 ghost use Rattle.std.specs.Prelude.{◌≡◌, ◌++◌, fold, OnOk, IfOk};
 ghost use Rattle.fd_scope.specs.Faults.{along};
 ghost use Rattle.fd_loops.specs.Drafts.{start_draft, same_operator, is_assigned, is_reduced, is_other, is_reduced_otherwise, clash_faults};
-ghost use Rattle.fd_loops.specs.Bodies.{is_plain, plain_faults, checked_body, with_body, after_written, written_faults, after_body, body_faults};
+ghost use Rattle.fd_loops.specs.Bodies.{is_plain, plain_faults, checked_body, with_body, after_written, written_faults, after_body};
+ghost use Rattle.fd_loops.specs.Bodies.{body_faults};
 
 use crate::elements::add_element;
 use crate::exprs::add_expr;
@@ -144,7 +145,8 @@ fn add_written(
     value: &Expr,
 ) -> Result<(), Memory>
     ensures draft { OnOk result (draft.new ≡ after_written head.now around.now index operator target.now value.now draft.old) }
-    ensures noted { OnOk result (faults.new ≡ faults.old ++ written_faults head.now around.now index operator target.now value.now draft.old) }
+    ensures noted { OnOk result (faults.new ≡ faults.old ++ written_faults head.now around.now index operator target.now value.now
+        draft.old) }
 {
     note_not_plain(faults, operator, target)?;
     note_clash(
@@ -205,7 +207,8 @@ pub fn loop_body(
     statements: &[BodyStatement],
 ) -> Result<Draft, Memory>
     ensures draft { IfOk result (λ d. d ≡ fold (after_body head.now around.now index) (start_draft used) statements.now) }
-    ensures noted { OnOk result (faults.new ≡ faults.old ++ along (after_body head.now around.now index) (body_faults head.now around.now index) (start_draft used) statements.now) }
+    ensures noted { OnOk result (faults.new ≡ faults.old ++ along (after_body head.now around.now index)
+        (body_faults head.now around.now index) (start_draft used) statements.now) }
 {
     let mut draft = Draft::new(alloc, used);
     for statement in statements {

@@ -1,5 +1,6 @@
 ghost use Rattle.std.specs.Prelude.{◌≡◌, ◌++◌, ◌∷◌, [], OnOk, IfOk, slice_set};
-ghost use Rattle.fd_loops.specs.Drafts.{start_draft, is_crowded, with_reference, next_number, crowd_faults, same_marks, is_stamped, stamp_in, used_at, stamp_for, with_stamp, after_stamp, stamp_faults, after_target};
+ghost use Rattle.fd_loops.specs.Drafts.{start_draft, is_crowded, with_reference, next_number, crowd_faults, same_marks, is_stamped};
+ghost use Rattle.fd_loops.specs.Drafts.{stamp_in, used_at, stamp_for, with_stamp, after_stamp, stamp_faults, after_target};
 
 use fd_program::{CheckedBodyList, CheckedScalars, Reference, References};
 use fd_resolve::{Mark, Marks};

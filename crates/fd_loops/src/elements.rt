@@ -1,9 +1,10 @@
 ghost use Rattle.std.specs.Prelude.{◌≡◌, ◌++◌, OnOk, IfOk};
-ghost use Rattle.fd_loops.specs.Elements.{index_reference, after_index, index_faults, is_index_crowded, after_own_stamp, own_stamp, own_stamp_faults, own_reference, after_own, own_faults, after_element, element_number, element_faults};
-ghost use Rattle.fd_program.specs.Stores.{array_at};
+ghost use Rattle.fd_loops.specs.Elements.{index_reference, after_index, index_faults, is_index_crowded, after_own_stamp, own_stamp};
+ghost use Rattle.fd_loops.specs.Elements.{own_stamp_faults, own_reference, after_own, own_faults, after_element, element_number};
+ghost use Rattle.fd_loops.specs.Elements.{element_faults};
 
 use crate::Draft;
-use fd_program::{ArrayFacts, CheckedSubscript, Reference};
+use fd_program::{ArrayFacts, CheckedSubscript, Reference, array_at};
 use fd_resolve::{
     Around, array_named, array_or_zero, marks_of, note_array, note_subscript, resolve_offset,
     resolve_subscript,
@@ -12,21 +13,6 @@ use fd_scope::{Faults, Head};
 use fd_syntax::{Element, Subscript, Term};
 use fd_words::{Memory, Name, Role, SourceCause};
 use std::alloc::Global;
-
-/// The facts of an array.
-fn facts_at(head: &Head, array: u32) -> ArrayFacts
-    ensures { result ≡ array_at head.now.tables.arrays array }
-{
-    match head.tables.arrays.as_slice().get(array as usize) {
-        Some(facts) => *facts,
-        None => ArrayFacts {
-            name: Name::new(),
-            extent: 0,
-            decomposition: 0,
-            offset: 0,
-        },
-    }
-}
 
 fn index_of(
     alloc: Global,
@@ -88,7 +74,7 @@ fn stamp_of(
     match array {
         None => Ok(0),
         Some(array) => {
-            let facts = facts_at(head, array);
+            let facts = array_at(head.tables.arrays.as_slice(), array);
             let marks = marks_of(alloc, head, around, subscript)?;
             Ok(draft.stamp(facts.decomposition, facts.offset, &marks))
         }
@@ -108,7 +94,7 @@ fn take_own_stamp(
     match array {
         None => Ok(()),
         Some(array) => {
-            let facts = facts_at(head, array);
+            let facts = array_at(head.tables.arrays.as_slice(), array);
             let marks = marks_of(alloc, head, around, subscript)?;
             draft.take_stamp(facts.decomposition, facts.offset, marks)
         }
@@ -129,7 +115,7 @@ fn note_own_stamp(
     match array {
         None => Ok(()),
         Some(array) => {
-            let facts = facts_at(head, array);
+            let facts = array_at(head.tables.arrays.as_slice(), array);
             let marks = marks_of(alloc, head, around, &element.subscript)?;
             draft.note_stamp(
                 faults,

@@ -6,36 +6,9 @@ use crate::elements::add_element;
 use fd_program::{CheckedExpr, CheckedScalar, CheckedScalars};
 use fd_resolve::{Around, note_name, resolve_name, same_name};
 use fd_scope::{Faults, Head, narrow};
-use fd_syntax::{Arith, Expr};
+use fd_syntax::Expr;
 use fd_words::{Memory, Name, Role, SourcePlace};
-use sqlite_items::Boxed;
 use std::alloc::Global;
-
-fn negate(alloc: Global, inner: CheckedExpr) -> Result<CheckedExpr, Memory>
-    ensures { IfOk result (λ e. e ≡ CheckedExpr.Negate inner) }
-{
-    match Boxed::new(alloc, inner) {
-        Ok(inner) => Ok(CheckedExpr::Negate(inner)),
-        Err(_) => Err(Memory),
-    }
-}
-
-fn join(
-    alloc: Global,
-    op: Arith,
-    left: CheckedExpr,
-    right: CheckedExpr,
-) -> Result<CheckedExpr, Memory>
-    ensures { IfOk result (λ e. e ≡ CheckedExpr.Binary op left right) }
-{
-    match Boxed::new(alloc, left) {
-        Ok(left) => match Boxed::new(alloc, right) {
-            Ok(right) => Ok(CheckedExpr::Binary { op, left, right }),
-            Err(_) => Err(Memory),
-        },
-        Err(_) => Err(Memory),
-    }
-}
 
 fn push_scalar(terms: &mut CheckedScalars, scalar: CheckedScalar) -> Result<(), Memory>
     ensures { OnOk result (terms.new ≡ terms.old ++ scalar ∷ []) }
@@ -110,12 +83,12 @@ pub fn add_expr(
         }
         Expr::Negate(inner) => {
             let inner = add_expr(alloc, head, around, index, draft, faults, inner.get())?;
-            negate(alloc, inner)
+            CheckedExpr::negate(alloc, inner)
         }
         Expr::Binary { op, left, right } => {
             let left = add_expr(alloc, head, around, index, draft, faults, left.get())?;
             let right = add_expr(alloc, head, around, index, draft, faults, right.get())?;
-            join(alloc, *op, left, right)
+            CheckedExpr::join(alloc, *op, left, right)
         }
     }
 }

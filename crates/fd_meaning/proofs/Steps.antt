@@ -1,5 +1,6 @@
 -- The first offence of several iterations, and writes past the end of a list.
-use Rattle.std.proofs.Common.{◌≡◌, ℕ, zero, suc, ◌≤◌, ℤ, pos, negsuc, ◌<ℤ◌, List, [], ◌∷◌, ◌++◌, length, refl, ap, sym, ◌∙◌, Some, None, arith, Option}
+use Rattle.std.proofs.Common.{◌≡◌, ℕ, zero, suc, ◌≤◌, ℤ, pos, negsuc, ◌<ℤ◌, List, [], ◌∷◌, ◌++◌, length, refl, ap, sym, ◌∙◌, Some, None}
+use Rattle.std.proofs.Common.{arith, Option}
 use Rattle.std.specs.Prelude.{slice_set}
 use Rattle.fd_words.specs.Lists.{list_at}
 use Rattle.std.proofs.lemmas.Grind.{common_steps}
@@ -31,7 +32,8 @@ same_list [] a = refl
 same_list (l ∷ store) zero = refl
 same_list (l ∷ store) (suc a) = ap (λ s. l ∷ s) (same_list store a)
 
-pub not_written : (store : List (List ℤ)) (a p : ℕ) (v : ℤ) → length (list_at store a) ≤ p → store ≡ slice_set store a (slice_set (list_at store a) p v)
+pub not_written : (store : List (List ℤ)) (a p : ℕ) (v : ℤ) → length (list_at store a) ≤ p
+    → store ≡ slice_set store a (slice_set (list_at store a) p v)
 not_written store a p v h = sym (ap (slice_set store a) (past_end (list_at store a) p v h) ∙ same_list store a)
 
 pub place_from : (z : ℤ) (n : ℕ) → pos n <ℤ z → n ≤ place_of z

@@ -1,8 +1,8 @@
 ghost use Rattle.std.specs.Prelude.{◌≡◌, ◌≤ℤ◌, ◌^◌, length, pos};
-ghost use Rattle.fd_program.specs.Stores.{array_at, element as element_of, is_within, number_at, place_of};
+ghost use Rattle.fd_program.specs.Stores.{element as element_of, number_at, place_of};
 ghost use Rattle.fd_words.specs.Lists.{list_at};
 
-use fd_program::{ArrayFacts, Store};
+use fd_program::Store;
 use fd_words::Numbers;
 
 /// The number at a place, 0 from the end on.
@@ -55,20 +55,4 @@ pub fn count(store: &Store, array: u32) -> u64
         Some(list) => list.len(),
         None => 0,
     }
-}
-
-fn extent(arrays: &[ArrayFacts], array: u32) -> u64
-    ensures { result ≡ (array_at arrays.now array).extent }
-{
-    match arrays.get(array as usize) {
-        Some(facts) => facts.extent,
-        None => 0,
-    }
-}
-
-/// Whether the array has this element.
-pub fn within(arrays: &[ArrayFacts], array: u32, subscript: i128) -> bool
-    ensures { result ≡ is_within arrays.now array subscript }
-{
-    1 <= subscript && subscript <= i128::from(extent(arrays, array))
 }

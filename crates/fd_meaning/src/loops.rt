@@ -18,7 +18,8 @@ fn add_changes(
     i: i64,
     body: &[CheckedBody],
 ) -> Result<(), Memory>
-    ensures { OnOk result (writes_of_changes changes.new ≡ writes_of_changes changes.old ++ map (write_of terms.now store.now i uses.now) body.now) }
+    ensures { OnOk result (writes_of_changes changes.new ≡ writes_of_changes changes.old ++ map (write_of terms.now store.now i uses.now)
+        body.now) }
 {
     for statement in body {
         changes.push(change_of(store, uses, terms, i, statement))?;

@@ -1,39 +1,10 @@
-ghost use Rattle.std.specs.Prelude.{◌≡◌, ◌≤◌, length, filter_map, IfOk};
-ghost use Rattle.fd_program.specs.Loops.{first_of, offence_at as offence_by, offences_in};
+ghost use Rattle.std.specs.Prelude.{◌≡◌, ◌≤◌, length, IfOk};
+ghost use Rattle.fd_program.specs.Loops.{first_of, offences_in};
 
-use crate::elements::within;
 use crate::uses::uses;
-use fd_program::{ArrayFacts, LoopTurn, Site, Store, Use};
+use fd_program::{ArrayFacts, LoopTurn, Site, Store, first_offence};
 use fd_words::{Memory, Offence};
 use std::alloc::Global;
-
-/// The offence of a reference, if it is one.
-fn offence_at(arrays: &[ArrayFacts], used: &Use) -> Option<Offence>
-    ensures { result ≡ offence_by arrays.now used.now }
-{
-    if used.defined && !within(arrays, used.array, used.subscript) {
-        Some(Offence {
-            iteration: used.iteration,
-            reference: used.number,
-            subscript: used.subscript,
-        })
-    } else {
-        None
-    }
-}
-
-/// The first offence of these references.
-fn first_offence(arrays: &[ArrayFacts], uses: &[Use]) -> Option<Offence>
-    ensures { result ≡ first_of (filter_map (offence_by arrays.now) uses.now) }
-{
-    for used in uses {
-        match offence_at(arrays, used) {
-            Some(offence) => return Some(offence),
-            None => {}
-        }
-    }
-    None
-}
 
 /// The first offence of these iterations.
 #[tactic(auto, using(crate::proofs::Steps::first_steps))]

@@ -24,7 +24,8 @@ fn finish(
     store: &Store,
     refused: Option<Refused>,
 ) -> Result<PlainEnd, Memory>
-    ensures text { IfOk result (λ e. e.text ≡ text ++ refusal_text checked.now refused ++ flat_map (output_line checked.now store.now) checked.now.outputs) }
+    ensures text { IfOk result (λ e. e.text ≡ text ++ refusal_text checked.now refused ++ flat_map (output_line checked.now store.now)
+        checked.now.outputs) }
     ensures refused { IfOk result (λ e. e.refused ≡ refused) }
 {
     let mut text = text;

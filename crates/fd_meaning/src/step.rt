@@ -24,7 +24,8 @@ fn run_loop(
 ) -> Result<Option<Offence>, Memory>
     requires { length site.now.references ≤ 64 }
     ensures offence { IfOk result (λ o. o ≡ offence_of checked.now.arrays site.now turn.now store.old) }
-    ensures store { IfOk result (λ o. MatchOption o (store.new ≡ after_loop checked.now.arrays site.now turn.now store.old) (λ _. store.new ≡ store.old)) }
+    ensures store { IfOk result (λ o. MatchOption o (store.new ≡ after_loop checked.now.arrays site.now turn.now store.old)
+        (λ _. store.new ≡ store.old)) }
 {
     let arrays = checked.arrays.as_slice();
     let all = iterations(alloc, turn.low, turn.high)?;
@@ -48,7 +49,8 @@ fn run_forall(
 ) -> Result<Option<Offence>, Memory>
     requires { All (λ (s : ASite). length s.references ≤ 64) checked.now.sites }
     ensures offence { IfOk result (λ o. o ≡ offence_of checked.now.arrays (site_at checked.now.sites site) turn.now store.old) }
-    ensures store { IfOk result (λ o. MatchOption o (store.new ≡ after_loop checked.now.arrays (site_at checked.now.sites site) turn.now store.old) (λ _. store.new ≡ store.old)) }
+    ensures store { IfOk result (λ o. MatchOption o (store.new ≡ after_loop checked.now.arrays (site_at checked.now.sites site) turn.now
+        store.old) (λ _. store.new ≡ store.old)) }
 {
     match checked.sites.get(site as usize) {
         Some(found) => run_loop(alloc, checked, found, turn, store),

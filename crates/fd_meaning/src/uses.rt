@@ -1,63 +1,10 @@
-ghost use Rattle.std.specs.Prelude.{◌≡◌, ◌+ℤ◌, ◌≤◌, length, IfOk};
-ghost use Rattle.fd_program.specs.Uses.{gives_index, index_value as index_value_of, subscript_of, use_at, use_of, uses_of};
+ghost use Rattle.std.specs.Prelude.{◌≡◌, ◌≤◌, length, IfOk};
+ghost use Rattle.fd_program.specs.Uses.{index_value as index_value_of, use_at, uses_of};
 
-use crate::elements::{element, number, within};
-use fd_program::{ArrayFacts, CheckedSubscript, LoopTurn, Reference, Site, Store, Use, Uses};
+use crate::elements::{element, number};
+use fd_program::{ArrayFacts, LoopTurn, Site, Store, Use, Uses, gives, subscript, use_by};
 use fd_words::{Memory, Role};
 use std::alloc::Global;
-
-/// Their sum, exactly.
-fn sum(a: i64, b: i64) -> i128
-    ensures { result ≡ a +ℤ b }
-{
-    i128::from(a) + i128::from(b)
-}
-
-/// The subscript at iteration `i`: `add` is the number that it adds, and `before` the element that the
-/// index reference directly before it reads.
-fn subscript(form: &CheckedSubscript, i: i64, add: i64, before: Option<i64>) -> Option<i128>
-    ensures { result ≡ subscript_of form.now i add before }
-{
-    match form {
-        CheckedSubscript::Plain { add: _ } => Some(sum(i, add)),
-        CheckedSubscript::Through {
-            index_array: _,
-            at: _,
-            inner_add: _,
-            add: _,
-        } => match before {
-            Some(value) => Some(sum(value, add)),
-            None => None,
-        },
-        CheckedSubscript::Scalar(_) => Some(i128::from(add)),
-    }
-}
-
-/// The use of a reference at iteration `i`.
-fn use_by(reference: &Reference, i: i64, number: u32, subscript: Option<i128>) -> Use
-    ensures { result ≡ use_of reference.now i number subscript }
-{
-    Use {
-        iteration: i,
-        number,
-        role: reference.role,
-        array: reference.array,
-        stamp: reference.stamp,
-        defined: subscript.is_some(),
-        subscript: subscript.unwrap_or(0),
-    }
-}
-
-/// Whether an index reference has an element to give.
-fn gives(arrays: &[ArrayFacts], used: Use) -> bool
-    ensures { result ≡ gives_index arrays.now used }
-{
-    match used.role {
-        Role::Index => used.defined && within(arrays, used.array, used.subscript),
-        Role::Read => false,
-        Role::Target => false,
-    }
-}
 
 /// The element that an index reference gives.
 fn index_value(arrays: &[ArrayFacts], store: &Store, used: Use) -> Option<i64>

@@ -1,25 +1,11 @@
 ghost use Rattle.std.specs.Prelude.{◌≡◌};
-ghost use Rattle.fd_program.specs.Scalars.{exactly};
 ghost use Rattle.fd_program.specs.Uses.{read_of, use_at};
 ghost use Rattle.fd_program.specs.Values.{read_in, value_of};
-ghost use Rattle.fd_words.specs.Value.{wrapped};
 
 use crate::elements::{element, number};
 use crate::uses::numbered;
 use fd_program::{CheckedExpr, Store, Use};
-use fd_syntax::Arith;
-use fd_words::{Numbers, minus, negated, plus, times};
-
-/// The sum, difference or product, modulo 2^64.
-fn compute(op: Arith, a: i64, b: i64) -> i64
-    ensures { result ≡ wrapped (exactly op a b) }
-{
-    match op {
-        Arith::Plus => plus(a, b),
-        Arith::Minus => minus(a, b),
-        Arith::Times => times(a, b),
-    }
-}
+use fd_words::{Numbers, negated};
 
 /// What a reference reads.
 fn read(store: &Store, uses: &[Use], number: u32) -> i64
@@ -39,8 +25,7 @@ pub fn evaluate(expr: &CheckedExpr, uses: &[Use], terms: &Numbers, store: &Store
         CheckedExpr::Term(place) => number(terms, u64::from(*place)),
         CheckedExpr::Read(number) => read(store, uses, *number),
         CheckedExpr::Negate(inner) => negated(evaluate(inner.get(), uses, terms, store, i)),
-        CheckedExpr::Binary { op, left, right } => compute(
-            *op,
+        CheckedExpr::Binary { op, left, right } => op.apply(
             evaluate(left.get(), uses, terms, store, i),
             evaluate(right.get(), uses, terms, store, i),
         ),

@@ -1,5 +1,6 @@
-ghost use Rattle.std.specs.Prelude.{◌≡◌, [], ◌∷◌, ◌++◌, ◌<◌, ◌≤◌, ◌^◌, codes, decimal, IfOk, OnOk};
-ghost use Rattle.fd_mesh.specs.Mesh.{lines_of, numbers_by, values_of, map_of, begins_of, ends_of, file_of, files_of};
+ghost use Rattle.std.specs.Prelude.{◌≡◌, [], ◌∷◌, ◌++◌, ◌<◌, ◌≤◌, ◌^◌, decimal, IfOk, OnOk};
+ghost use Rattle.std.specs.List.{flat_map};
+ghost use Rattle.fd_mesh.specs.Mesh.{lines_of, numbers_by, file_of, files_of};
 
 use crate::rule::Rule;
 use fd_words::{Bytes, Memory};
@@ -24,67 +25,40 @@ pub fn files_of(alloc: Global, seed: u64, size: u64) -> Result<FileList, Memory>
     ensures { IfOk result (λ files. files ≡ files_of seed size) }
 {
     let mut files = FileList::new(alloc);
-    let values = values_file(alloc, size)?;
+    let values = file_by(alloc, b"x.csv", &[Rule::Place], seed, size)?;
     files.push(values)?;
-    let map = map_file(alloc, seed, size)?;
+    let map = file_by(alloc, b"m.csv", &[Rule::Mapped], seed, size)?;
     files.push(map)?;
-    let begins = begins_file(alloc, size)?;
+    let begins = file_by(alloc, b"e1.csv", &[Rule::Place, Rule::Place], seed, size)?;
     files.push(begins)?;
-    let ends = ends_file(alloc, seed, size)?;
+    let ends = file_by(alloc, b"e2.csv", &[Rule::Ring, Rule::Chord], seed, size)?;
     files.push(ends)?;
     Ok(files)
 }
 
-fn values_file(alloc: Global, size: u64) -> Result<FileData, Memory>
-    requires some { 0 < size }
-    requires within { size ≤ 100000 }
-    ensures { IfOk result (λ file. file ≡ file_of (codes "x.csv") (values_of size)) }
-{
-    let mut name = Bytes::new(alloc);
-    name.append(b"x.csv")?;
-    let mut content = Bytes::new(alloc);
-    append_lines(&mut content, Rule::Place, 0, size)?;
-    Ok(FileData { name, content })
-}
-
-fn map_file(alloc: Global, seed: u64, size: u64) -> Result<FileData, Memory>
+/// The file with this name, and in it for each rule a line for each element.
+fn file_by(
+    alloc: Global,
+    name: &[u8],
+    rules: &[Rule],
+    seed: u64,
+    size: u64,
+) -> Result<FileData, Memory>
     requires seed_fits { seed < 2 ^ 32 }
     requires some { 0 < size }
     requires within { size ≤ 100000 }
-    ensures { IfOk result (λ file. file ≡ file_of (codes "m.csv") (map_of seed size)) }
+    ensures { IfOk result (λ file. file ≡ file_of name.now (flat_map (λ rule. numbers_by rule seed size) rules.now)) }
 {
-    let mut name = Bytes::new(alloc);
-    name.append(b"m.csv")?;
+    let mut own_name = Bytes::new(alloc);
+    own_name.append(name)?;
     let mut content = Bytes::new(alloc);
-    append_lines(&mut content, Rule::Mapped, seed, size)?;
-    Ok(FileData { name, content })
-}
-
-fn begins_file(alloc: Global, size: u64) -> Result<FileData, Memory>
-    requires some { 0 < size }
-    requires within { size ≤ 100000 }
-    ensures { IfOk result (λ file. file ≡ file_of (codes "e1.csv") (begins_of size)) }
-{
-    let mut name = Bytes::new(alloc);
-    name.append(b"e1.csv")?;
-    let mut content = Bytes::new(alloc);
-    append_lines(&mut content, Rule::Place, 0, size)?;
-    append_lines(&mut content, Rule::Place, 0, size)?;
-    Ok(FileData { name, content })
-}
-
-fn ends_file(alloc: Global, seed: u64, size: u64) -> Result<FileData, Memory>
-    requires seed_fits { seed < 2 ^ 32 }
-    requires some { 0 < size }
-    requires within { size ≤ 100000 }
-    ensures { IfOk result (λ file. file ≡ file_of (codes "e2.csv") (ends_of seed size)) }
-{
-    let mut name = Bytes::new(alloc);
-    name.append(b"e2.csv")?;
-    let mut content = Bytes::new(alloc);
-    append_lines(&mut content, Rule::Ring, seed, size)?;
-    append_lines(&mut content, Rule::Chord, seed, size)?;
-    Ok(FileData { name, content })
+    for rule in rules {
+        append_lines(&mut content, *rule, seed, size)?;
+    }
+    Ok(FileData {
+        name: own_name,
+        content,
+    })
 }
 
 /// Appends a line for each element.

@@ -1,5 +1,7 @@
 -- What a change of the first file of a name leaves, and what it changes.
-use Rattle.std.proofs.Common.{◌≡◌, ℕ, zero, suc, ◌+◌, ◌≤◌, ◌^◌, Bool, true, false, ◌||◌, ◌&&◌, if◌then◌else◌, List, [], ◌∷◌, Option, Some, None, option_map, is_some, is_none, ◌++◌, ◌-◌, ◌<◌, length, take, drop, slice_set, get_or, nat_lt, ap, sym, ◌∙◌, subst, refl, arith, Err}
+use Rattle.std.proofs.Common.{◌≡◌, ℕ, zero, suc, ◌+◌, ◌≤◌, ◌^◌, Bool, true, false, ◌||◌, ◌&&◌, if◌then◌else◌, List, [], ◌∷◌, Option, Some}
+use Rattle.std.proofs.Common.{None, option_map, is_some, is_none, ◌++◌, ◌-◌, ◌<◌, length, take, drop, slice_set, get_or, nat_lt, ap, sym}
+use Rattle.std.proofs.Common.{◌∙◌, subst, refl, arith, Err}
 use Rattle.std.proofs.lemmas.Bool.Decides.{same_from_decides}
 use Rattle.std.proofs.lemmas.Grind.{common_steps}
 use Rattle.std.proofs.lemmas.List.{drop_more}
@@ -11,7 +13,8 @@ use Rattle.fd_outside.specs.Named.{bytes_in, faults_in, file_in, changed_in, mar
 use Rattle.fd_outside.specs.declared.memory.MemoryFile.{MemoryFile}
 
 bytes_eq-comm : (xs ys : List ℕ) → bytes_eq xs ys ≡ bytes_eq ys xs
-bytes_eq-comm xs ys = same_from_decides (bytes_eq xs ys) (bytes_eq ys xs) (bytes_eq-Decides xs ys) ((λ e. sym ((bytes_eq-Decides ys xs).0 e)), (λ e. (bytes_eq-Decides ys xs).1 (sym e)))
+bytes_eq-comm xs ys = same_from_decides (bytes_eq xs ys) (bytes_eq ys xs) (bytes_eq-Decides xs ys)
+    ((λ e. sym ((bytes_eq-Decides ys xs).0 e)), (λ e. (bytes_eq-Decides ys xs).1 (sym e)))
 
 bytes_eq-refl : (xs : List ℕ) → bytes_eq xs xs ≡ true
 bytes_eq-refl xs = (bytes_eq-Decides xs xs).1 refl
@@ -29,18 +32,22 @@ marked_keeps [] name other = refl
 marked_keeps (f ∷ fs) name other = by (bytes_eq f.name name) (bytes_eq f.name other) (marked_keeps fs name other) refl
   where
     by : (b c : Bool) → bytes_in (changed_in marked fs name) other ≡ bytes_in fs other → bytes_eq f.name other ≡ c
-        → bytes_in (if b then marked f ∷ fs else f ∷ changed_in marked fs name) other ≡ option_map (λ (g : MemoryFile). g.bytes) (if bytes_eq f.name other then Some f else file_in fs other)
+        → bytes_in (if b then marked f ∷ fs else f ∷ changed_in marked fs name) other ≡ option_map (λ (g : MemoryFile). g.bytes)
+        (if bytes_eq f.name other then Some f else file_in fs other)
     by true true more e = rw e refl
     by true false more e = rw e refl
     by false true more e = rw e refl
     by false false more e = rw e more
 
-pub refilled_keeps : (fs : List MemoryFile) (bytes : List ℕ) (absent : ℕ) (name other : List ℕ) → faults_in (changed_in (refilled bytes) fs name) absent other ≡ faults_in fs absent other
+pub refilled_keeps : (fs : List MemoryFile) (bytes : List ℕ) (absent : ℕ) (name other : List ℕ)
+    → faults_in (changed_in (refilled bytes) fs name) absent other ≡ faults_in fs absent other
 refilled_keeps [] bytes absent name other = refl
-refilled_keeps (f ∷ fs) bytes absent name other = by (bytes_eq f.name name) (bytes_eq f.name other) (refilled_keeps fs bytes absent name other) refl
+refilled_keeps (f ∷ fs) bytes absent name other = by (bytes_eq f.name name) (bytes_eq f.name other)
+    (refilled_keeps fs bytes absent name other) refl
   where
     by : (b c : Bool) → faults_in (changed_in (refilled bytes) fs name) absent other ≡ faults_in fs absent other → bytes_eq f.name other ≡ c
-        → faults_in (if b then refilled bytes f ∷ fs else f ∷ changed_in (refilled bytes) fs name) absent other ≡ faults_in (f ∷ fs) absent other
+        → faults_in (if b then refilled bytes f ∷ fs else f ∷ changed_in (refilled bytes) fs name) absent other
+        ≡ faults_in (f ∷ fs) absent other
     by true true more e = rw e refl
     by true false more e = rw e refl
     by false true more e = rw e refl
@@ -49,10 +56,12 @@ refilled_keeps (f ∷ fs) bytes absent name other = by (bytes_eq f.name name) (b
 pub refilled_holds : (fs : List MemoryFile) (bytes name other : List ℕ) → is_some (bytes_in fs name) ≡ true
     → bytes_in (changed_in (refilled bytes) fs name) other ≡ with_contents (bytes_in fs) name bytes other
 refilled_holds [] bytes name other some = cc some
-refilled_holds (f ∷ fs) bytes name other some = by (bytes_eq f.name name) refl (bytes_eq f.name other) refl (refilled_holds fs bytes name other)
+refilled_holds (f ∷ fs) bytes name other some = by (bytes_eq f.name name) refl (bytes_eq f.name other) refl
+    (refilled_holds fs bytes name other)
   where
     by : (b : Bool) → bytes_eq f.name name ≡ b → (c : Bool) → bytes_eq f.name other ≡ c
-        → (is_some (bytes_in fs name) ≡ true → bytes_in (changed_in (refilled bytes) fs name) other ≡ with_contents (bytes_in fs) name bytes other)
+        → (is_some (bytes_in fs name) ≡ true → bytes_in (changed_in (refilled bytes) fs name) other ≡ with_contents (bytes_in fs) name
+        bytes other)
         → bytes_in (changed_in (refilled bytes) (f ∷ fs) name) other ≡ with_contents (bytes_in (f ∷ fs)) name bytes other
     by true e c d more = rw (here_is f.name name other e) (rw e (rw d (same c)))
       where
@@ -79,7 +88,8 @@ pushed_holds (g ∷ fs) f other none = by (bytes_eq g.name f.name) refl (bytes_e
     by false e true d more = rw (other_is g.name f.name other d) (rw e (rw d refl))
     by false e false d more = rw d (more (rw e at none))
 
-pub pushed_counts : (fs : List MemoryFile) (f : MemoryFile) (other : List ℕ) → faults_in (fs ++ f ∷ []) f.faults other ≡ faults_in fs f.faults other
+pub pushed_counts : (fs : List MemoryFile) (f : MemoryFile) (other : List ℕ) → faults_in (fs ++ f ∷ []) f.faults other
+    ≡ faults_in fs f.faults other
 pushed_counts [] f other = same (bytes_eq f.name other)
   where
     same : (c : Bool) → option_map_or (λ (g : MemoryFile). g.faults) (if c then Some f else None) f.faults ≡ f.faults
@@ -94,24 +104,29 @@ pushed_counts (g ∷ fs) f other = by (bytes_eq g.name other) refl (pushed_count
 
 -- the counts by name after one more fault of a name, over the parts of files in memory
 abbrev pub counts_after : List MemoryFile → ℕ → List ℕ → List ℕ → ℕ
-counts_after fs absent name other = if share_count (bytes_in fs) name other then risen (faults_in fs absent other) else faults_in fs absent other
+counts_after fs absent name other = if share_count (bytes_in fs) name other then risen (faults_in fs absent other)
+    else faults_in fs absent other
 
 pub marked_counts : (fs : List MemoryFile) (absent : ℕ) (name other : List ℕ) → is_none (bytes_in fs name) ≡ false
     → faults_in (changed_in marked fs name) absent other ≡ counts_after fs absent name other
-marked_counts fs absent name other there = only fs there ∙ ap (λ (b : Bool). if b then risen (faults_in fs absent other) else faults_in fs absent other) (alone (bytes_eq other name))
+marked_counts fs absent name other there = only fs there
+    ∙ ap (λ (b : Bool). if b then risen (faults_in fs absent other) else faults_in fs absent other) (alone (bytes_eq other name))
   where
     alone : (b : Bool) → b ≡ (b || (is_none (bytes_in fs name) && is_none (bytes_in fs other)))
     alone true = refl
     alone false = rw there refl
 
     only : (fs : List MemoryFile) → is_none (bytes_in fs name) ≡ false
-        → faults_in (changed_in marked fs name) absent other ≡ (if bytes_eq other name then risen (faults_in fs absent other) else faults_in fs absent other)
+        → faults_in (changed_in marked fs name) absent other ≡ (if bytes_eq other name then risen (faults_in fs absent other)
+        else faults_in fs absent other)
     only [] some = cc some
     only (f ∷ fs) some = by (bytes_eq f.name name) refl (bytes_eq f.name other) refl (only fs)
       where
         by : (b : Bool) → bytes_eq f.name name ≡ b → (c : Bool) → bytes_eq f.name other ≡ c
-            → (is_none (bytes_in fs name) ≡ false → faults_in (changed_in marked fs name) absent other ≡ (if bytes_eq other name then risen (faults_in fs absent other) else faults_in fs absent other))
-            → faults_in (changed_in marked (f ∷ fs) name) absent other ≡ (if bytes_eq other name then risen (faults_in (f ∷ fs) absent other) else faults_in (f ∷ fs) absent other)
+            → (is_none (bytes_in fs name) ≡ false → faults_in (changed_in marked fs name) absent other
+            ≡ (if bytes_eq other name then risen (faults_in fs absent other) else faults_in fs absent other))
+            → faults_in (changed_in marked (f ∷ fs) name) absent other
+            ≡ (if bytes_eq other name then risen (faults_in (f ∷ fs) absent other) else faults_in (f ∷ fs) absent other)
         by true e true d more = rw (here_is f.name name other e) (rw e (rw d refl))
         by true e false d more = rw (here_is f.name name other e) (rw e (rw d refl))
         by false e true d more = rw (other_is f.name name other d) (rw e (rw d refl))
@@ -123,7 +138,8 @@ absent_counts fs absent name other none = rw none (by (file_in fs other) refl)
   where
     by : (o : Option MemoryFile) → file_in fs other ≡ o
         → option_map_or (λ (g : MemoryFile). g.faults) o (risen absent)
-        ≡ (if bytes_eq other name || is_none (option_map (λ (g : MemoryFile). g.bytes) o) then risen (option_map_or (λ (g : MemoryFile). g.faults) o absent) else option_map_or (λ (g : MemoryFile). g.faults) o absent)
+        ≡ (if bytes_eq other name || is_none (option_map (λ (g : MemoryFile). g.bytes) o)
+        then risen (option_map_or (λ (g : MemoryFile). g.faults) o absent) else option_map_or (λ (g : MemoryFile). g.faults) o absent)
     by None e = either (bytes_eq other name)
       where
         either : (b : Bool) → risen absent ≡ (if b || true then risen absent else absent)
@@ -133,8 +149,10 @@ absent_counts fs absent name other none = rw none (by (file_in fs other) refl)
       where
         either : (b : Bool) → bytes_eq other name ≡ b → f.faults ≡ (if b || false then risen f.faults else f.faults)
         either true d =
-            let there : is_none (bytes_in fs other) ≡ false = ap (λ (o : Option MemoryFile). is_none (option_map (λ (g : MemoryFile). g.bytes) o)) e in
-            let gone : is_none (bytes_in fs other) ≡ true = ap (λ (xs : List ℕ). is_none (bytes_in fs xs)) ((bytes_eq-Decides other name).0 d) ∙ none in
+            let there : is_none (bytes_in fs other) ≡ false =
+            ap (λ (o : Option MemoryFile). is_none (option_map (λ (g : MemoryFile). g.bytes) o)) e in
+            let gone : is_none (bytes_in fs other) ≡ true = ap (λ (xs : List ℕ). is_none (bytes_in fs xs))
+            ((bytes_eq-Decides other name).0 d) ∙ none in
             cc (there, gone)
         either false d = refl
 
@@ -163,45 +181,60 @@ set_at (x ∷ xs) (suc i) y h =
     let h' : i < length xs = omega arith in
     ap (λ (ys : List MemoryFile). x ∷ ys) (set_at xs i y h') ∙ ap (λ (k : ℕ). x ∷ take i xs ++ y ∷ drop k (x ∷ xs)) e
 
-found : (change : MemoryFile → MemoryFile) (f : MemoryFile) (fs : List MemoryFile) (name : List ℕ) → bytes_eq f.name name ≡ true → changed_in change (f ∷ fs) name ≡ change f ∷ fs
+found : (change : MemoryFile → MemoryFile) (f : MemoryFile) (fs : List MemoryFile) (name : List ℕ) → bytes_eq f.name name ≡ true
+    → changed_in change (f ∷ fs) name ≡ change f ∷ fs
 found change f fs name e = rw e refl
 
-pub changed_at : (change : MemoryFile → MemoryFile) (files all : List MemoryFile) (i : ℕ) (d : MemoryFile) (name : List ℕ) → i < length files → bytes_eq (get_or files i d).name name ≡ true
-    → take i files ++ changed_in change (drop i files) name ≡ changed_in change all name → slice_set files i (change (get_or files i d)) ≡ changed_in change all name
+pub changed_at : (change : MemoryFile → MemoryFile) (files all : List MemoryFile) (i : ℕ) (d : MemoryFile) (name : List ℕ)
+    → i < length files → bytes_eq (get_or files i d).name name ≡ true
+    → take i files ++ changed_in change (drop i files) name ≡ changed_in change all name → slice_set files i (change (get_or files i d))
+    ≡ changed_in change all name
 changed_at change files all i d name h e left =
     set_at files i (change (get_or files i d)) h
     ∙ ap (λ (ys : List MemoryFile). take i files ++ ys) (sym (found change (get_or files i d) (drop (i + 1) files) name e))
     ∙ ap (λ (ys : List MemoryFile). take i files ++ changed_in change ys name) (sym (drop_more files i d h))
     ∙ left
 
-pub pushed_contents : (fs now : List MemoryFile) (f : MemoryFile) (name : List ℕ) → now ≡ fs ++ f ∷ [] → f.name ≡ name → bytes_in fs name ≡ None
+pub pushed_contents : (fs now : List MemoryFile) (f : MemoryFile) (name : List ℕ) → now ≡ fs ++ f ∷ [] → f.name ≡ name
+    → bytes_in fs name ≡ None
     → bytes_in now ≡ with_contents (bytes_in fs) name f.bytes
 pushed_contents fs now f name e own none =
-    ap bytes_in e ∙ (λ i other. pushed_holds fs f other (ap is_none (ap (bytes_in fs) own ∙ none)) i) ∙ ap (λ (n : List ℕ). with_contents (bytes_in fs) n f.bytes) own
+    ap bytes_in e ∙ (λ i other. pushed_holds fs f other (ap is_none (ap (bytes_in fs) own ∙ none)) i)
+    ∙ ap (λ (n : List ℕ). with_contents (bytes_in fs) n f.bytes) own
 
-pub pushed_faults : (fs now : List MemoryFile) (f : MemoryFile) (absent : ℕ) → now ≡ fs ++ f ∷ [] → f.faults ≡ absent → faults_in now absent ≡ faults_in fs absent
-pushed_faults fs now f absent e own = ap (λ (gs : List MemoryFile). faults_in gs absent) e ∙ ap (faults_in (fs ++ f ∷ [])) (sym own) ∙ (λ i other. pushed_counts fs f other i) ∙ ap (faults_in fs) own
+pub pushed_faults : (fs now : List MemoryFile) (f : MemoryFile) (absent : ℕ) → now ≡ fs ++ f ∷ [] → f.faults ≡ absent
+    → faults_in now absent ≡ faults_in fs absent
+pushed_faults fs now f absent e own = ap (λ (gs : List MemoryFile). faults_in gs absent) e ∙ ap (faults_in (fs ++ f ∷ [])) (sym own)
+    ∙ (λ i other. pushed_counts fs f other i) ∙ ap (faults_in fs) own
 
-pub refilled_contents : (fs now : List MemoryFile) (bytes name : List ℕ) → now ≡ changed_in (refilled bytes) fs name → is_none (bytes_in fs name) ≡ false
+pub refilled_contents : (fs now : List MemoryFile) (bytes name : List ℕ) → now ≡ changed_in (refilled bytes) fs name
+    → is_none (bytes_in fs name) ≡ false
     → bytes_in now ≡ with_contents (bytes_in fs) name bytes
-refilled_contents fs now bytes name e there = ap bytes_in e ∙ (λ i other. refilled_holds fs bytes name other (some_of (bytes_in fs name) there) i)
+refilled_contents fs now bytes name e there = ap bytes_in e
+    ∙ (λ i other. refilled_holds fs bytes name other (some_of (bytes_in fs name) there) i)
   where
     some_of : (o : Option (List ℕ)) → is_none o ≡ false → is_some o ≡ true
     some_of None h = cc h
     some_of (Some x) h = refl
 
-pub refilled_faults : (fs now : List MemoryFile) (bytes : List ℕ) (absent : ℕ) (name : List ℕ) → now ≡ changed_in (refilled bytes) fs name → faults_in now absent ≡ faults_in fs absent
-refilled_faults fs now bytes absent name e = ap (λ (gs : List MemoryFile). faults_in gs absent) e ∙ (λ i other. refilled_keeps fs bytes absent name other i)
+pub refilled_faults : (fs now : List MemoryFile) (bytes : List ℕ) (absent : ℕ) (name : List ℕ) → now ≡ changed_in (refilled bytes) fs name
+    → faults_in now absent ≡ faults_in fs absent
+refilled_faults fs now bytes absent name e = ap (λ (gs : List MemoryFile). faults_in gs absent) e
+    ∙ (λ i other. refilled_keeps fs bytes absent name other i)
 
 pub marked_contents : (fs now : List MemoryFile) (name : List ℕ) → now ≡ changed_in marked fs name → bytes_in now ≡ bytes_in fs
 marked_contents fs now name e = ap bytes_in e ∙ (λ i other. marked_keeps fs name other i)
 
-pub marked_faults : (fs now : List MemoryFile) (absent : ℕ) (name : List ℕ) → now ≡ changed_in marked fs name → is_none (bytes_in fs name) ≡ false
+pub marked_faults : (fs now : List MemoryFile) (absent : ℕ) (name : List ℕ) → now ≡ changed_in marked fs name → is_none (bytes_in fs name)
+    ≡ false
     → faults_in now absent ≡ counts_after fs absent name
-marked_faults fs now absent name e there = ap (λ (gs : List MemoryFile). faults_in gs absent) e ∙ (λ i other. marked_counts fs absent name other there i)
+marked_faults fs now absent name e there = ap (λ (gs : List MemoryFile). faults_in gs absent) e
+    ∙ (λ i other. marked_counts fs absent name other there i)
 
-pub fell_none : (fs : List MemoryFile) (absent : ℕ) (name : List ℕ) (now : List ℕ → ℕ) → now ≡ counts_after fs absent name → NoneFell (faults_in fs absent) now
-fell_none fs absent name now e other = subst (λ (f : List ℕ → ℕ). faults_in fs absent other ≤ f other) (sym e) (none_falls fs absent name other)
+pub fell_none : (fs : List MemoryFile) (absent : ℕ) (name : List ℕ) (now : List ℕ → ℕ) → now ≡ counts_after fs absent name
+    → NoneFell (faults_in fs absent) now
+fell_none fs absent name now e other = subst (λ (f : List ℕ → ℕ). faults_in fs absent other ≤ f other) (sym e)
+    (none_falls fs absent name other)
 
 rises : (n : ℕ) → Rose n (risen n)
 rises n = by (nat_lt n (2 ^ 64 - 1)) refl
@@ -210,7 +243,8 @@ rises n = by (nat_lt n (2 ^ 64 - 1)) refl
     by true e = omega arith
     by false e = let most : 2 ^ 64 - 1 ≤ n = grind (arith, common_steps) in omega (arith, most)
 
-pub caused : {A E : Type 0} (fs : List MemoryFile) (absent : ℕ) (name : List ℕ) (now : List ℕ → ℕ) (error : E) → now ≡ counts_after fs absent name
+pub caused : {A E : Type 0} (fs : List MemoryFile) (absent : ℕ) (name : List ℕ) (now : List ℕ → ℕ) (error : E)
+    → now ≡ counts_after fs absent name
     → HasCause {T = A} (faults_in fs absent name) (now name) (Err error)
 caused fs absent name now error e =
     let own : now name ≡ risen (faults_in fs absent name) = ap (λ (f : List ℕ → ℕ). f name) e ∙ own_rose fs absent name in

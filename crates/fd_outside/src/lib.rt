@@ -11,7 +11,7 @@ mod within;
 
 pub use gate::{Gate, OpenGate};
 pub use host::{HostFiles, HostSink};
-pub use memory::MemoryFiles;
+pub use memory::{MemoryFiles, copy_from};
 pub use sink::MemorySink;
 pub use whole::{ReadStop, read_whole, write_whole};
 pub use within::{Failed, Files, Sink};

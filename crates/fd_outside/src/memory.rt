@@ -1,6 +1,8 @@
-ghost use Rattle.std.specs.Prelude.{◌≡◌, ◌≢◌, ◌+◌, ◌-◌, ◌≤◌, ◌↔◌, ◌++◌, [], ℕ, List, Some, None, min, length, take, drop, IfOk, IfSome, IsErr, OnOk, OnErr, option_map, slice_set};
+ghost use Rattle.std.specs.Prelude.{◌≡◌, ◌≢◌, ◌+◌, ◌-◌, ◌≤◌, ◌↔◌, ◌++◌, [], ℕ, List, Some, None, min, length, take, drop, IfOk, IfSome};
+ghost use Rattle.std.specs.Prelude.{IsErr, OnOk, OnErr, option_map, slice_set};
 ghost use Rattle.fd_outside.specs.Causes.{HasCause, GivesFrom, NoneFell, risen};
-ghost use Rattle.fd_outside.specs.Named.{contents_of, faults_of, next_read, failing_reads, CannotRead, with_contents, after_fault, bytes_in, faults_in, changed_in, marked, refilled};
+ghost use Rattle.fd_outside.specs.Named.{contents_of, faults_of, next_read, failing_reads, CannotRead, with_contents, after_fault};
+ghost use Rattle.fd_outside.specs.Named.{bytes_in, faults_in, changed_in, marked, refilled};
 
 use crate::count::one_more;
 use crate::within::{Failed, Files};
@@ -130,8 +132,9 @@ fn replace_in(files: &mut Vec<MemoryFile>, name: &str, bytes: Bytes)
     }
 }
 
-/// Copies what stands from a place on, as much as there is room for.
-fn copy_from(held: &[u8], at: u64, into: &mut [u8]) -> usize
+/// Copies bytes from a place on into the first places of a buffer, as many as there are and fit. This is what a read of a
+/// file in memory gives.
+pub fn copy_from(held: &[u8], at: u64, into: &mut [u8]) -> usize
     ensures count { result ≡ min (length into.old) (length (drop at held.now)) }
     ensures gives { GivesFrom held.now at result into.new }
 {
@@ -159,7 +162,8 @@ impl Files for MemoryFiles {
         ensures counted { next_read self.new ≤ next_read self.old + 1 }
 
         ensures fails { IsErr result ↔ CannotRead self.old name.now }
-        ensures takes { IfOk result (λ n. IfSome (contents_of self.old name.now) (λ held. n ≡ min (length into.old) (length (drop at held)))) }
+        ensures takes { IfOk result (λ n. IfSome (contents_of self.old name.now)
+            (λ held. n ≡ min (length into.old) (length (drop at held)))) }
         ensures counts { OnErr result (faults_of self.new ≡ after_fault self.old name.now) }
         ensures kept { OnOk result (faults_of self.new ≡ faults_of self.old) }
         ensures call { next_read self.new ≡ risen (next_read self.old) }

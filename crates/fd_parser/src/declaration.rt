@@ -1,7 +1,9 @@
 ghost use Rattle.std.specs.Prelude.{◌≡◌, ◌≤◌, ◌<◌, true, List, [], ◌∷◌, length};
 ghost use Rattle.fd_expressions.specs.Reads.{Reads};
 ghost use Rattle.fd_parser.specs.Begun.{BehindItems};
-ghost use Rattle.fd_grammar.specs.Machine.{State, Item, Value, run, Then, wanted, InItem, InItems, MoreItems, ParameterItem, SizedItem, ListedItem, AlignedItem, ParameterRest, IntegerRest, DecompositionRest, AlignRest, AlignTarget, ReadRest, OutputRest};
+ghost use Rattle.fd_grammar.specs.Machine.{State, Item, Value, run, Then, wanted, InItem, InItems, MoreItems, ParameterItem, SizedItem};
+ghost use Rattle.fd_grammar.specs.Machine.{ListedItem, AlignedItem, ParameterRest, IntegerRest, DecompositionRest, AlignRest, AlignTarget};
+ghost use Rattle.fd_grammar.specs.Machine.{ReadRest, OutputRest};
 
 use fd_expressions::{Parser, Stop};
 use fd_grammar::{Fixed, Mark, sort_of};
@@ -15,7 +17,8 @@ use sqlite_items::Items;
 fn comma(parser: &mut Parser<'_>) -> bool
     ensures shrinks { length parser.new.rest.now ≤ length parser.old.rest.now }
     ensures moves { result ≡ true → length parser.new.rest.now < length parser.old.rest.now }
-    ensures reads { (i : Item) (xs : List (Value i)) (k : List (Value i) → State) → run parser.old.rest.now (Then (MoreItems i xs k)) ≡ run parser.new.rest.now (BehindItems result i xs k) }
+    ensures reads { (i : Item) (xs : List (Value i)) (k : List (Value i) → State) → run parser.old.rest.now (Then (MoreItems i xs k))
+        ≡ run parser.new.rest.now (BehindItems result i xs k) }
 {
     match parser.rest {
         [token, rest @ ..] if Mark::Comma.is(sort_of(token.kind)) => {
@@ -112,7 +115,8 @@ fn aligned(parser: &mut Parser<'_>, dummy: Name) -> Result<Listed, Stop>
 /// The arrays of an ALIGN from the second on, behind the first.
 fn more_aligned(parser: &mut Parser<'_>, dummy: Name, first: Listed) -> Result<ListedList, Stop>
     ensures shrinks { length parser.new.rest.now ≤ length parser.old.rest.now }
-    ensures reads { Reads (λ k. Then (MoreItems (AlignedItem dummy) (first ∷ []) k)) (λ xs k. wanted Mark.With (k xs)) parser.old.rest.now parser.new.rest.now result }
+    ensures reads { Reads (λ k. Then (MoreItems (AlignedItem dummy) (first ∷ []) k)) (λ xs k. wanted Mark.With (k xs)) parser.old.rest.now
+        parser.new.rest.now result }
 {
     let mut items = Items::new(parser.alloc);
     items.push(first)?;

@@ -1,7 +1,8 @@
 ghost use Rattle.std.specs.Prelude.{◌≡◌, ◌≤◌, length, IfOk, IfErr};
 ghost use Rattle.fd_expressions.specs.Reads.{Reads};
 ghost use Rattle.fd_parser.specs.Reads.{ReadsBody};
-ghost use Rattle.fd_grammar.specs.Machine.{Then, InForm, AfterCyclic, DistributeRest, PrintRest, RangeRest, DoRest, ForallRest, Close, EndOfDo, EndOfForall};
+ghost use Rattle.fd_grammar.specs.Machine.{Then, InForm, AfterCyclic, DistributeRest, PrintRest, RangeRest, DoRest, ForallRest, Close};
+ghost use Rattle.fd_grammar.specs.Machine.{EndOfDo, EndOfForall};
 
 use crate::inner::inner_lines;
 use fd_expressions::{Parser, Stop};

@@ -25,7 +25,8 @@ CellsAreInOrder = (cells : List Cell) → IsInOrder cells
 
 same_cell : (x y : Cell) → x.array ≡ y.array → x.element ≡ y.element → x ≡ y
 same_cell x y e f =
-    ap (λ a. let c : Cell = record { array = a; element = x.element } in c) e ∙ ap (λ b. let c : Cell = record { array = y.array; element = b } in c) f
+    ap (λ a. let c : Cell = record { array = a; element = x.element } in c) e
+    ∙ ap (λ b. let c : Cell = record { array = y.array; element = b } in c) f
 
 same_if_neither : (x y : Cell) → is_before x y ≡ false → is_before y x ≡ false → x ≡ y
 same_if_neither x y e f = same_cell x y (arrays x.array y.array x.element y.element e f) (elements x.array y.array x.element y.element e f)
@@ -50,7 +51,8 @@ among_with [] x y (inl e) = inl e
 among_with [] x y (inr a) = absurd a
 among_with (z ∷ zs) x y a = by (is_before x z) (is_before z x) a (among_with zs x y)
   where
-    by : (b c : Bool) → Among y (if b then x ∷ z ∷ zs else z ∷ (if c then with_cell zs x else zs)) → (Among y (with_cell zs x) → (y ≡ x) ⊎ Among y zs) → (y ≡ x) ⊎ Among y (z ∷ zs)
+    by : (b c : Bool) → Among y (if b then x ∷ z ∷ zs else z ∷ (if c then with_cell zs x else zs))
+        → (Among y (with_cell zs x) → (y ≡ x) ⊎ Among y zs) → (y ≡ x) ⊎ Among y (z ∷ zs)
     by true c (inl e) rest = inl e
     by true c (inr k) rest = inr k
     by false c (inl e) rest = inr (inl e)
@@ -62,7 +64,8 @@ with_among [] x y (inl e) = inl e
 with_among [] x y (inr a) = absurd a
 with_among (z ∷ zs) x y a = by (is_before x z) (is_before z x) refl refl a (with_among zs x y)
   where
-    by : (b c : Bool) → is_before x z ≡ b → is_before z x ≡ c → (y ≡ x) ⊎ Among y (z ∷ zs) → ((y ≡ x) ⊎ Among y zs → Among y (with_cell zs x))
+    by : (b c : Bool) → is_before x z ≡ b → is_before z x ≡ c → (y ≡ x) ⊎ Among y (z ∷ zs)
+        → ((y ≡ x) ⊎ Among y zs → Among y (with_cell zs x))
         → Among y (if b then x ∷ z ∷ zs else z ∷ (if c then with_cell zs x else zs))
     by true c e f (inl k) rest = inl k
     by true c e f (inr k) rest = inr k
@@ -77,7 +80,8 @@ with_ascends : (xs : List Cell) (x : Cell) → IsAscending xs → IsAscending (w
 with_ascends [] x h = (tt, tt)
 with_ascends (z ∷ zs) x h = by (is_before x z) (is_before z x) refl refl (with_ascends zs x h.1)
   where
-    by : (b c : Bool) → is_before x z ≡ b → is_before z x ≡ c → IsAscending (with_cell zs x) → IsAscending (if b then x ∷ z ∷ zs else z ∷ (if c then with_cell zs x else zs))
+    by : (b c : Bool) → is_before x z ≡ b → is_before z x ≡ c → IsAscending (with_cell zs x)
+        → IsAscending (if b then x ∷ z ∷ zs else z ∷ (if c then with_cell zs x else zs))
     by true c e f rest = (
       (
         e,
@@ -128,14 +132,16 @@ same_ascending (x ∷ xs) (y ∷ ys) h g same =
       | inl e ↦ e
       | inr later ↦ elim (same.1 y (inl refl)) [
         | inl e ↦ sym e
-        | inr also ↦ absurd (never_both x.array x.element y.array y.element (all_among (λ w. is_before x w ≡ true) xs y h.0 also) (all_among (λ w. is_before y w ≡ true) ys x g.0 later))
+        | inr also ↦ absurd (never_both x.array x.element y.array y.element (all_among (λ w. is_before x w ≡ true) xs y h.0 also)
+            (all_among (λ w. is_before y w ≡ true) ys x g.0 later))
       ]
     ]
 
     there : (z : Cell) → Among z xs → Among z ys
     there z a = elim (same.0 z (inr a)) [
       | inl e ↦
-          let itself : is_before x x ≡ true = subst (λ w. is_before x w ≡ true) (e ∙ sym first) (all_among (λ w. is_before x w ≡ true) xs z h.0 a) in
+          let itself : is_before x x ≡ true = subst (λ w. is_before x w ≡ true) (e ∙ sym first)
+          (all_among (λ w. is_before x w ≡ true) xs z h.0 a) in
           absurd (never_both x.array x.element x.array x.element itself itself)
       | inr b ↦ b
     ]
@@ -143,7 +149,8 @@ same_ascending (x ∷ xs) (y ∷ ys) h g same =
     back : (z : Cell) → Among z ys → Among z xs
     back z a = elim (same.1 z (inr a)) [
       | inl e ↦
-          let itself : is_before y y ≡ true = subst (λ w. is_before y w ≡ true) (e ∙ first) (all_among (λ w. is_before y w ≡ true) ys z g.0 a) in
+          let itself : is_before y y ≡ true = subst (λ w. is_before y w ≡ true) (e ∙ first)
+          (all_among (λ w. is_before y w ≡ true) ys z g.0 a) in
           absurd (never_both y.array y.element y.array y.element itself itself)
       | inr b ↦ b
     ]
@@ -151,7 +158,11 @@ same_ascending (x ∷ xs) (y ∷ ys) h g same =
 pub cells_are_in_order : CellsAreInOrder
 cells_are_in_order cells =
     let sorted = fold_ascends cells [] tt in
-    let out : (x : Cell) → Among x (ascending cells) → Among x cells = λ x a. elim (fold_among cells [] x a) [ inl b ↦ absurd b | inr b ↦ b ] in
+    let out : (x : Cell) → Among x (ascending cells) → Among x cells = λ x a. elim (fold_among cells [] x a) [
+      | inl b ↦ absurd b
+      | inr b ↦
+          b
+    ] in
     let into : (x : Cell) → Among x cells → Among x (ascending cells) = λ x a. among_fold cells [] x (inr a) in
     record {
       ascends = sorted;

@@ -1,6 +1,7 @@
 -- What is known of a checked program: numbers are in range, extents within their limits, each reference through an index array stands
 -- directly behind its index reference, and the statements of a loop don't disagree about an array.
-use Rattle.std.specs.Prelude.{◌≡◌, ◌≢◌, ◌<◌, ◌≤◌, ◌+◌, ◌-◌, ℕ, ℤ, pos, ◌+ℤ◌, ◌≤ℤ◌, List, [], ◌∷◌, length, slice_get, All, AllPairs, Any, Option, Some, None, IsSome, IsSomeAnd}
+use Rattle.std.specs.Prelude.{◌≡◌, ◌≢◌, ◌<◌, ◌≤◌, ◌+◌, ◌-◌, ℕ, ℤ, pos, ◌+ℤ◌, ◌≤ℤ◌, List, [], ◌∷◌, length, slice_get, All, AllPairs, Any}
+use Rattle.std.specs.Prelude.{Option, Some, None, IsSome, IsSomeAnd}
 use Rattle.std.specs.Option.{option_map_or}
 use Rattle.chaos_dist.specs.Homes.{natural}
 use Rattle.chaos_dist.specs.Layout.{given_size}
@@ -90,7 +91,8 @@ IsExpr references terms expr.Index = Unit {0}
 IsExpr references terms (expr.Term place) = place < terms
 IsExpr references terms (expr.Read number) = HasRole references Read number
 IsExpr references terms (expr.Negate' s (expr.more_of-CheckedExpr inner expr.end_of-CheckedExpr)) = IsExpr references terms inner
-IsExpr references terms (expr.Binary' op s (expr.more_of-CheckedExpr left expr.end_of-CheckedExpr) t (expr.more_of-CheckedExpr right expr.end_of-CheckedExpr)) =
+IsExpr references terms (expr.Binary' op s (expr.more_of-CheckedExpr left expr.end_of-CheckedExpr) t
+    (expr.more_of-CheckedExpr right expr.end_of-CheckedExpr)) =
     IsExpr references terms left × IsExpr references terms right
 
 abbrev pub IsPlainAt : List Reference → ℕ → Type 0

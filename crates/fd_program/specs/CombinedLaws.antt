@@ -1,5 +1,6 @@
 -- Values that are combined may be combined first where they arise, and in any order of the nodes.
-use Rattle.std.specs.Prelude.{◌≡◌, refl, ℕ, ◌+◌, ℤ, Bool, true, false, ◌==◌, cond, List, [], ◌∷◌, ◌++◌, fold, filter_map, flat_map, count_by, Option, Some, None}
+use Rattle.std.specs.Prelude.{◌≡◌, refl, ℕ, ◌+◌, ℤ, Bool, true, false, ◌==◌, cond, List, [], ◌∷◌, ◌++◌, fold, filter_map, flat_map}
+use Rattle.std.specs.Prelude.{count_by, Option, Some, None}
 use Rattle.std.specs.List.{AllByRecursion, cons_option}
 use Rattle.std.proofs.Common.{ap, sym, ◌∙◌, arith, append_assoc}
 use Rattle.std.proofs.lemmas.List.Sums.{sum_by-cons}
@@ -34,7 +35,8 @@ fold_append : (op : Combine) (a : ℤ) (xs ys : List ℤ) → fold (combined op)
 fold_append op a [] ys = refl
 fold_append op a (x ∷ xs) ys = fold_append op (combined op a x) xs ys
 
-fold_part : (op : Combine) (a : ℤ) (xs : List ℤ) (rest : List ℤ) → fold (combined op) (fold (combined op) a xs) rest ≡ fold (combined op) a (cons_option (joined_by op xs) rest)
+fold_part : (op : Combine) (a : ℤ) (xs : List ℤ) (rest : List ℤ) → fold (combined op) (fold (combined op) a xs) rest
+    ≡ fold (combined op) a (cons_option (joined_by op xs) rest)
 fold_part op a [] rest = refl
 fold_part op a (x ∷ xs) rest = ap (λ b. fold (combined op) b rest) (fold_first op a x xs)
 
@@ -56,7 +58,8 @@ one_earlier op a x [] = refl
 one_earlier op a x (y ∷ ys) = one_earlier op (combined op a y) x ys ∙ ap (λ b. fold (combined op) b ys) (swapped op a y x)
 
 -- a part is taken before what stands before it
-part_earlier : (op : Combine) (a : ℤ) (ys xs : List ℤ) → fold (combined op) (fold (combined op) a ys) xs ≡ fold (combined op) (fold (combined op) a xs) ys
+part_earlier : (op : Combine) (a : ℤ) (ys xs : List ℤ) → fold (combined op) (fold (combined op) a ys) xs ≡ fold (combined op)
+    (fold (combined op) a xs) ys
 part_earlier op a ys [] = refl
 part_earlier op a ys (x ∷ xs) =
     ap (λ b. fold (combined op) b xs) (one_earlier op a x ys) ∙ part_earlier op (combined op a x) ys xs
@@ -72,7 +75,8 @@ module _ (op : Combine) (values : ℤ → List ℤ) (home : ℤ → ℕ) where
   of_nodes iterations nodes = flat_map (of_node iterations) nodes
 
   -- an iteration more changes nothing where its home isn't among the nodes
-  more_elsewhere : (i : ℤ) (is : List ℤ) (nodes : List ℕ) → count_by (λ node. home i == node) nodes ≡ 0 → of_nodes (i ∷ is) nodes ≡ of_nodes is nodes
+  more_elsewhere : (i : ℤ) (is : List ℤ) (nodes : List ℕ) → count_by (λ node. home i == node) nodes ≡ 0
+      → of_nodes (i ∷ is) nodes ≡ of_nodes is nodes
   more_elsewhere i is [] none = refl
   more_elsewhere i is (p ∷ ps) none = by (home i == p) refl (more_elsewhere i is ps)
     where
@@ -85,7 +89,8 @@ module _ (op : Combine) (values : ℤ → List ℤ) (home : ℤ → ℕ) where
       by false e rest =
           let nought : one_if (home i == p) ≡ 0 = ap one_if e in
           let still : count_by (λ node. home i == node) ps ≡ 0 = omega (arith, first, none, nought) in
-          ap (λ b. flat_map values (cond b (i ∷ bucket home is p) (bucket home is p)) ++ of_nodes (i ∷ is) ps) e ∙ ap (λ l. of_node is p ++ l) (rest still)
+          ap (λ b. flat_map values (cond b (i ∷ bucket home is p) (bucket home is p)) ++ of_nodes (i ∷ is) ps) e
+          ∙ ap (λ l. of_node is p ++ l) (rest still)
 
   -- and where it is there once, its values may be taken first
   more_here : (i : ℤ) (is : List ℤ) (nodes : List ℕ) (a : ℤ) → count_by (λ node. home i == node) nodes ≡ 1

@@ -1,5 +1,6 @@
 -- What a loop leaves at an element, from what each node's own iterations contribute to it.
-use Rattle.std.specs.Prelude.{◌≡◌, refl, ℕ, ◌+◌, ◌<◌, ℤ, Bool, true, false, ◌==◌, cond, List, [], ◌∷◌, ◌++◌, length, map, fold, filter, filter_map, flat_map, count_by, Some, None}
+use Rattle.std.specs.Prelude.{◌≡◌, refl, ℕ, ◌+◌, ◌<◌, ℤ, Bool, true, false, ◌==◌, cond, List, [], ◌∷◌, ◌++◌, length, map, fold, filter}
+use Rattle.std.specs.Prelude.{filter_map, flat_map, count_by, Some, None}
 use Rattle.std.specs.List.{AllByRecursion, cons_option}
 use Rattle.std.proofs.Common.{ap, sym, ◌∙◌, subst, arith, inl, inr}
 use Rattle.std.proofs.Math.Path.{fun_ext}
@@ -25,14 +26,16 @@ use Rattle.fd_program.specs.declared.loop_facts.LoopFacts.{LoopFacts}
 abbrev pub ContributionsMakeElements : Type 0
 ContributionsMakeElements =
     (f : LoopFacts) (owners : List (List ℕ)) (store : List (List ℤ)) (array place : ℕ) (nodes : List ℕ)
-    → IsSite f.arrays f.site → offence_of f.arrays f.site f.turn store ≡ None → AreOnce (home_of f owners store) nodes (iterations_of f.turn)
+    → IsSite f.arrays f.site → offence_of f.arrays f.site f.turn store ≡ None
+    → AreOnce (home_of f owners store) nodes (iterations_of f.turn)
     → array < length store → place < length (list_at store array)
     → number_at (list_at (after_loop f.arrays f.site f.turn store) array) place
     ≡ fold applied (number_at (list_at store array) place) (contributions_of f owners store array place nodes)
 
 -- ---- lists
 
-pub filter_parts : {A B : Type 0} (p : B → Bool) (g : A → List B) (xs : List A) → filter p (flat_map g xs) ≡ flat_map (λ x. filter p (g x)) xs
+pub filter_parts : {A B : Type 0} (p : B → Bool) (g : A → List B) (xs : List A)
+    → filter p (flat_map g xs) ≡ flat_map (λ x. filter p (g x)) xs
 filter_parts p g [] = refl
 filter_parts p g (x ∷ xs) = filter-append p (g x) (flat_map g xs) ∙ ap (λ l. filter p (g x) ++ l) (filter_parts p g xs)
 
@@ -85,7 +88,8 @@ module _ (P : ℤ → List Write) (home : ℤ → ℕ) where
   skipped false i is e = refl
 
   module _ (i : ℤ) (is : List ℤ) (w : Write) (here : P i ≡ w ∷ []) (nowhere : flat_map P is ≡ []) where
-    first_count : (p : ℕ) (ps : List ℕ) → count_by (λ node. home i == node) (p ∷ ps) ≡ one_if (home i == p) + count_by (λ node. home i == node) ps
+    first_count : (p : ℕ) (ps : List ℕ) → count_by (λ node. home i == node) (p ∷ ps) ≡ one_if (home i == p)
+        + count_by (λ node. home i == node) ps
     first_count p ps = sum_by-cons (λ node. one_if (home i == node)) p ps
 
     its_part : (b : Bool) (p : ℕ) → home i == p ≡ b → part (i ∷ is) p ≡ cond b (w ∷ []) []
@@ -99,7 +103,8 @@ module _ (P : ℤ → List Write) (home : ℤ → ℕ) where
     none_of [] none = refl
     none_of (p ∷ ps) none = by (home i == p) refl (none_of ps)
       where
-        by : (b : Bool) → home i == p ≡ b → (count_by (λ node. home i == node) ps ≡ 0 → joined_parts (i ∷ is) ps ≡ []) → joined_parts (i ∷ is) (p ∷ ps) ≡ []
+        by : (b : Bool) → home i == p ≡ b → (count_by (λ node. home i == node) ps ≡ 0 → joined_parts (i ∷ is) ps ≡ [])
+            → joined_parts (i ∷ is) (p ∷ ps) ≡ []
         by true e rest = absurd (let one : one_if (home i == p) ≡ 1 = ap one_if e in omega (arith, first_count p ps, none, one))
         by false e rest =
             let nought : one_if (home i == p) ≡ 0 = ap one_if e in
@@ -110,26 +115,31 @@ module _ (P : ℤ → List Write) (home : ℤ → ℕ) where
     one_of [] one = cc
     one_of (p ∷ ps) one = by (home i == p) refl (one_of ps)
       where
-        by : (b : Bool) → home i == p ≡ b → (count_by (λ node. home i == node) ps ≡ 1 → joined_parts (i ∷ is) ps ≡ with_value w w.value ∷ [])
+        by : (b : Bool) → home i == p ≡ b → (count_by (λ node. home i == node) ps ≡ 1 → joined_parts (i ∷ is) ps ≡ with_value w w.value
+            ∷ [])
             → joined_parts (i ∷ is) (p ∷ ps) ≡ with_value w w.value ∷ []
         by true e rest =
             let whole : one_if (home i == p) ≡ 1 = ap one_if e in
             let none : count_by (λ node. home i == node) ps ≡ 0 = omega (arith, first_count p ps, one, whole) in
-            ap (λ ws. cons_option (joined ws) (joined_parts (i ∷ is) ps)) (its_part true p e) ∙ ap (λ l. with_value w w.value ∷ l) (none_of ps none)
+            ap (λ ws. cons_option (joined ws) (joined_parts (i ∷ is) ps)) (its_part true p e)
+            ∙ ap (λ l. with_value w w.value ∷ l) (none_of ps none)
         by false e rest =
             let nought : one_if (home i == p) ≡ 0 = ap one_if e in
             let still : count_by (λ node. home i == node) ps ≡ 1 = omega (arith, first_count p ps, one, nought) in
             ap (λ ws. cons_option (joined ws) (joined_parts (i ∷ is) ps)) (its_part false p e) ∙ rest still
 
-  one_part : (is : List ℤ) (nodes : List ℕ) (w : Write) → flat_map P is ≡ w ∷ [] → AreOnce home nodes is → joined_parts is nodes ≡ with_value w w.value ∷ []
+  one_part : (is : List ℤ) (nodes : List ℕ) (w : Write) → flat_map P is ≡ w ∷ [] → AreOnce home nodes is
+      → joined_parts is nodes ≡ with_value w w.value ∷ []
   one_part [] nodes w e once = cc
   one_part (i ∷ is) nodes w e once = by (P i) refl e (λ rest. one_part is nodes w rest once.1)
     where
-      by : (l : List Write) → P i ≡ l → l ++ flat_map P is ≡ w ∷ [] → (flat_map P is ≡ w ∷ [] → joined_parts is nodes ≡ with_value w w.value ∷ [])
+      by : (l : List Write) → P i ≡ l → l ++ flat_map P is ≡ w ∷ []
+          → (flat_map P is ≡ w ∷ [] → joined_parts is nodes ≡ with_value w w.value ∷ [])
           → joined_parts (i ∷ is) nodes ≡ with_value w w.value ∷ []
       by [] none f rest =
           let same : joined_parts (i ∷ is) nodes ≡ joined_parts is nodes =
-          ap (λ (g : ℕ → List Write). filter_map (λ node. joined (g node)) nodes) (fun_ext (λ node. skipped (home i == node) i (bucket home is node) none)) in
+          ap (λ (g : ℕ → List Write). filter_map (λ node. joined (g node)) nodes)
+          (fun_ext (λ node. skipped (home i == node) i (bucket home is node) none)) in
           same ∙ rest f
       by (v ∷ vs) some f rest =
           let same : v ≡ w = cc in
@@ -156,7 +166,8 @@ module _ (P : ℤ → List Write) (home : ℤ → ℕ) where
         ∙ same (combined op old (fold (combined op) w.value (map value_in ws)))
 
     joined_values : (is : List ℤ) (nodes : List ℕ) (old : ℤ) → AllByRecursion (λ i. AllByRecursion By (P i)) is
-        → fold applied old (joined_parts is nodes) ≡ fold (combined op) old (filter_map (λ node. joined_by op (flat_map values_in (bucket home is node))) nodes)
+        → fold applied old (joined_parts is nodes) ≡ fold (combined op) old
+        (filter_map (λ node. joined_by op (flat_map values_in (bucket home is node))) nodes)
     joined_values is [] old h = refl
     joined_values is (p ∷ ps) old h =
         let all : AllByRecursion By (part is p) =
@@ -179,7 +190,8 @@ module _ (P : ℤ → List Write) (home : ℤ → ℕ) where
       → fold applied old (flat_map P is) ≡ fold applied old (joined_parts is nodes)
   by_nodes is nodes old pairs once = elim (three_of (flat_map P is) old (fold applied old (flat_map P is)) pairs refl) [
     | inl one ↦ ap (fold applied old) one.only ∙ sym (ap (fold applied old) (one_part is nodes one.write one.only once))
-    | inr (inl many) ↦ many_parts many.operator is nodes old (recursion_from_All (λ (w : Write). w.operator ≡ Some many.operator) (flat_map P is) many.each) once
+    | inr (inl many) ↦ many_parts many.operator is nodes old (recursion_from_All (λ (w : Write). w.operator ≡ Some many.operator)
+        (flat_map P is) many.each) once
     | inr (inr none) ↦ ap (fold applied old) (none.none ∙ sym (no_parts is nodes none.none))
   ]
 
@@ -189,9 +201,12 @@ contributions_make_elements f owners store array place nodes known none once ha 
     let home : ℤ → ℕ = home_of f owners store in
     let is = iterations_of f.turn in
     let old = number_at (list_at store array) place in
-    let all : writes_to array place (writes_of f.arrays f.site f.turn store) ≡ flat_map P is = filter_parts (reaches array place) (writes_at f.arrays f.site f.turn store) is in
-    let agreed = pairs_filter (Agreeing array place) (reaches array place) (writes_of f.arrays f.site f.turn store) (writes_agree f.arrays f.site f.turn store array place known none) in
-    let pairs = pairs_weaker (λ v w. (reaches array place v ≡ true) × (reaches array place w ≡ true) × Agreeing array place v w) Together (λ v w k. k.2 k.0 k.1)
+    let all : writes_to array place (writes_of f.arrays f.site f.turn store) ≡ flat_map P is = filter_parts (reaches array place)
+    (writes_at f.arrays f.site f.turn store) is in
+    let agreed = pairs_filter (Agreeing array place) (reaches array place) (writes_of f.arrays f.site f.turn store)
+    (writes_agree f.arrays f.site f.turn store array place known none) in
+    let pairs = pairs_weaker (λ v w. (reaches array place v ≡ true) × (reaches array place w ≡ true) × Agreeing array place v w) Together
+    (λ v w k. k.2 k.0 k.1)
     (writes_to array place (writes_of f.arrays f.site f.turn store)) agreed in
     element_after_writes (writes_of f.arrays f.site f.turn store) store array place ha hp
     ∙ ap (fold applied old) all

@@ -1,5 +1,6 @@
 -- The provisional homes deal out a range in order, and each iteration has one home among the nodes.
-use Rattle.std.specs.Prelude.{◌≡◌, refl, ℕ, zero, suc, ◌+◌, ◌-◌, ◌*◌, ◌/◌, ◌<◌, ◌≤◌, ℤ, pos, negsuc, ◌+ℤ◌, ◌-ℤ◌, Bool, true, false, ◌==◌, cond, List, [], ◌∷◌, map, flat_map, find, count_by, slice_get, unwrap_or, Some}
+use Rattle.std.specs.Prelude.{◌≡◌, refl, ℕ, zero, suc, ◌+◌, ◌-◌, ◌*◌, ◌/◌, ◌<◌, ◌≤◌, ℤ, pos, negsuc, ◌+ℤ◌, ◌-ℤ◌, Bool, true, false, ◌==◌}
+use Rattle.std.specs.Prelude.{cond, List, [], ◌∷◌, map, flat_map, find, count_by, slice_get, unwrap_or, Some}
 use Rattle.std.specs.List.{AllByRecursion, range_with_len, enumerate_from}
 use Rattle.std.proofs.Common.{ap, sym, ◌∙◌, subst, arith, inl, inr}
 use Rattle.std.proofs.lemmas.Bool.{cases_lt}
@@ -20,6 +21,7 @@ use Rattle.chaos_dist.specs.declared.step_form.StepForm.TheVariants.{Regular, Ma
 use Rattle.fd_program.specs.CombinedLaws.{AreOnce, one_if}
 use Rattle.fd_program.specs.Homes.{provisional_home, inspected_by, home_of, home_by, looked_at, owner_met, uses_at}
 use Rattle.fd_program.specs.Layouts.{Scene, loop_at, owners_at, owners_by, mapped_owners, store_at}
+use Rattle.fd_program.specs.ListLaws.{or_none}
 use Rattle.fd_program.specs.Loops.{counted_from, count_between, iterations_of}
 use Rattle.fd_program.specs.Past.{form_set}
 use Rattle.fd_program.specs.declared.array.LayoutName.{LayoutName}
@@ -62,7 +64,8 @@ ascends_from low w nodes lo k (suc n) some fits from z e =
     let fits' : k + 1 + n ≤ nodes * w = omega (arith, fits) in (
       subst (λ j. lo ≤ j / w) (sym here) from,
       subst (λ j. j / w < nodes) (sym here) (div_below k w nodes some few),
-      ascends_from low w nodes (natural (z -ℤ low) / w) (k + 1) n some fits' (subst (λ j. j / w ≤ (k + 1) / w) (sym here) (grows k w some)) (z +ℤ pos 1) (further low z k e),
+      ascends_from low w nodes (natural (z -ℤ low) / w) (k + 1) n some fits' (subst (λ j. j / w ≤ (k + 1) / w) (sym here)
+          (grows k w some)) (z +ℤ pos 1) (further low z k e),
     )
 
 some_width : (e n : ℕ) → 1 ≤ n → 1 ≤ e → 0 < divided_up e n
@@ -92,12 +95,8 @@ inspected_in_order f h =
 abbrev pub AreNodes : ℕ → List (List ℕ) → Type 0
 AreNodes nodes owners = AllByRecursion (λ list. AllByRecursion (λ o. o < nodes) list) owners
 
-or_none : {A : Type 0} (P : A → Type 0) (xs : List A) (k : ℕ) (d : A) → P d → AllByRecursion P xs → P (unwrap_or (slice_get xs k) d)
-or_none P [] k d h all = h
-or_none P (x ∷ xs) zero d h all = all.0
-or_none P (x ∷ xs) (suc k) d h all = or_none P xs k d h all.1
-
-owner_within : (nodes : ℕ) (owners : List (List ℕ)) (d e : ℕ) → 1 ≤ nodes → AreNodes nodes owners → owner_in (list_at owners d) e < nodes
+pub owner_within : (nodes : ℕ) (owners : List (List ℕ)) (d e : ℕ) → 1 ≤ nodes → AreNodes nodes owners → owner_in (list_at owners d) e
+    < nodes
 owner_within nodes owners d e some all =
     or_none (λ o. o < nodes) (list_at owners d) (e - 1) 0 (omega arith)
     (or_none (λ list. AllByRecursion (λ o. o < nodes) list) owners d [] tt all)
@@ -106,11 +105,13 @@ found_below : (p : ℕ → Bool) (a n : ℕ) → 1 ≤ a + n → unwrap_or (find
 found_below p a zero h = omega arith
 found_below p a (suc n) h = by (p a) (found_below p (a + 1) n (omega arith))
   where
-    by : (b : Bool) → unwrap_or (find p (range_with_len (a + 1) n)) 0 < a + 1 + n → unwrap_or (cond b (Some a) (find p (range_with_len (a + 1) n))) 0 < a + suc n
+    by : (b : Bool) → unwrap_or (find p (range_with_len (a + 1) n)) 0 < a + 1 + n
+        → unwrap_or (cond b (Some a) (find p (range_with_len (a + 1) n))) 0 < a + suc n
     by true less = omega arith
     by false less = omega (arith, less)
 
-pub home_of-below : (f : LoopFacts) (owners : List (List ℕ)) (store : List (List ℤ)) (i : ℤ) → 1 ≤ f.nodes → AreNodes f.nodes owners → home_of f owners store i < f.nodes
+pub home_of-below : (f : LoopFacts) (owners : List (List ℕ)) (store : List (List ℤ)) (i : ℤ) → 1 ≤ f.nodes → AreNodes f.nodes owners
+    → home_of f owners store i < f.nodes
 home_of-below f owners store i some all = by f.rule
   where
     by : (rule : HomeRule) → home_by rule f.nodes (map (owner_met f owners) (looked_at rule f.site.body (uses_at f store i))) < f.nodes
@@ -144,7 +145,10 @@ once_in h a (suc n) low high = elim (cases_lt a h) [
 
 pub are_once : (home : ℤ → ℕ) (nodes : ℕ) (iterations : List ℤ) → ((i : ℤ) → home i < nodes) → AreOnce home (below nodes) iterations
 are_once home nodes [] within = tt
-are_once home nodes (i ∷ is) within = (once_in (home i) 0 nodes (omega arith) (let h = within i in omega (arith, h)), are_once home nodes is within)
+are_once home nodes (i ∷ is) within = (
+  once_in (home i) 0 nodes (omega arith) (let h = within i in omega (arith, h)),
+  are_once home nodes is within,
+)
 
 -- ---- the owners at a step are nodes
 
@@ -160,9 +164,11 @@ mapped_below : (nodes : ℕ) (values : List ℤ) → 1 ≤ nodes → AllByRecurs
 mapped_below nodes [] h = tt
 mapped_below nodes (v ∷ vs) h = (remainder_below v nodes h, mapped_below nodes vs h)
 
-owners_by-below : (s : Scene) (extent : ℕ) (form : StepForm) (before : List Step) → 1 ≤ s.nodes → AllByRecursion (λ o. o < s.nodes) (owners_by s extent (form, before))
+owners_by-below : (s : Scene) (extent : ℕ) (form : StepForm) (before : List Step) → 1 ≤ s.nodes
+    → AllByRecursion (λ o. o < s.nodes) (owners_by s extent (form, before))
 owners_by-below s extent (Regular shape) before h =
-    all_range (λ o. o < s.nodes) (owner_of shape extent s.nodes) 1 extent (λ g low high. owner_of-below shape extent s.nodes g h (omega (arith, high)) low)
+    all_range (λ o. o < s.nodes) (owner_of shape extent s.nodes) 1 extent (λ g low high. owner_of-below shape extent s.nodes g h
+    (omega (arith, high)) low)
 owners_by-below s extent (Map array) before h = mapped_below s.nodes (list_at (store_at s before) array) h
 
 owners_from-below : (s : Scene) (past : List Step) (layouts : List LayoutName) (a : ℕ) → 1 ≤ s.nodes

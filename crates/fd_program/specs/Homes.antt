@@ -7,7 +7,8 @@ use Rattle.fd_words.specs.declared.place.Role.{Role}
 use Rattle.fd_program.specs.Cells.{Cell, ascending}
 use Rattle.fd_program.specs.Loops.{first_of, iterations_of, offences_in, target_of}
 use Rattle.fd_program.specs.Places.{owner_for}
-use Rattle.fd_program.specs.Uses.{is_read, is_target, uses_of, use_at}
+use Rattle.fd_program.specs.Uses.{uses_of, use_at}
+use Rattle.fd_words.specs.Roles.{is_read, is_target}
 use Rattle.fd_program.specs.declared.body.CheckedBody.{CheckedBody}
 use Rattle.fd_program.specs.declared.loop_facts.HomeRule.{HomeRule}
 use Rattle.fd_program.specs.declared.loop_facts.HomeRule.TheVariants.{Owner, Most}

@@ -9,6 +9,7 @@ pub mod Texts
 pub mod Places
 pub mod Cells
 pub mod Homes
+pub mod Met
 pub mod Past
 pub mod Layouts
 pub mod Reports
@@ -16,6 +17,7 @@ pub mod Terms
 pub mod Checks
 pub mod LoopLaws
 pub mod ListLaws
+pub mod AmongLaws
 pub mod LoopCases
 pub mod SameLoops
 pub mod UsesLaws
@@ -27,6 +29,9 @@ pub mod OffenceLaws
 pub mod Contributions
 pub mod ContributionLaws
 pub mod HomeLaws
+pub mod RangeLaws
+pub mod StepLaws
+pub mod OwnedLaws
 pub mod StoreLaws
 pub mod CellsLaws
 pub mod VoteLaws

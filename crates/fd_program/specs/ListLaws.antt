@@ -1,7 +1,9 @@
 -- Laws of plain lists: facts of each element and of each pair.
-use Rattle.std.specs.Prelude.{◌≡◌, refl, ℕ, zero, suc, Bool, true, false, cond, List, [], ◌∷◌, ◌++◌, map, filter, flat_map, filter_map, slice_get, AllPairs, Option, Some, None, ◌⊎◌}
+use Rattle.std.specs.Prelude.{◌≡◌, refl, ℕ, zero, suc, ◌<◌, Bool, true, false, cond, List, [], ◌∷◌, ◌++◌, map, filter, flat_map, filter_map}
+use Rattle.std.specs.Prelude.{length, reverse, slice_get, unwrap_or, AllPairs, Option, Some, None, ◌⊎◌}
 use Rattle.std.specs.List.{AllByRecursion, cons_option}
 use Rattle.std.proofs.Common.{ap, sym, ◌∙◌, subst, arith, inl, inr}
+use Rattle.std.proofs.lemmas.Grind.{reverse_onto}
 use Rattle.std.proofs.lemmas.List.Elements.{recursion_from_All}
 
 -- R holds of each element and each later one
@@ -22,7 +24,8 @@ pub all_weaker : {A : Type 0} (P Q : A → Type 0) → ((x : A) → P x → Q x)
 all_weaker P Q f [] h = tt
 all_weaker P Q f (x ∷ xs) h = (f x h.0, all_weaker P Q f xs h.1)
 
-pub all_both : {A : Type 0} (P Q S : A → Type 0) → ((x : A) → P x → Q x → S x) → (xs : List A) → AllByRecursion P xs → AllByRecursion Q xs → AllByRecursion S xs
+pub all_both : {A : Type 0} (P Q S : A → Type 0) → ((x : A) → P x → Q x → S x) → (xs : List A) → AllByRecursion P xs → AllByRecursion Q xs
+    → AllByRecursion S xs
 all_both P Q S f [] h g = tt
 all_both P Q S f (x ∷ xs) h g = (f x h.0 g.0, all_both P Q S f xs h.1 g.1)
 
@@ -34,25 +37,58 @@ pub all_map : {A B : Type 0} (P : B → Type 0) (f : A → B) (xs : List A) → 
 all_map P f [] h = tt
 all_map P f (x ∷ xs) h = (h.0, all_map P f xs h.1)
 
-pub all_flat_map : {A B : Type 0} (P : B → Type 0) (f : A → List B) (xs : List A) → AllByRecursion (λ x. AllByRecursion P (f x)) xs → AllByRecursion P (flat_map f xs)
+pub all_flat_map : {A B : Type 0} (P : B → Type 0) (f : A → List B) (xs : List A) → AllByRecursion (λ x. AllByRecursion P (f x)) xs
+    → AllByRecursion P (flat_map f xs)
 all_flat_map P f [] h = tt
 all_flat_map P f (x ∷ xs) h = all_append P (f x) (flat_map f xs) h.0 (all_flat_map P f xs h.1)
 
-pub all_filter : {A : Type 0} (P : A → Type 0) (p : A → Bool) (xs : List A) → AllByRecursion P xs → AllByRecursion (λ x. (p x ≡ true) × P x) (filter p xs)
+pub all_filter : {A : Type 0} (P : A → Type 0) (p : A → Bool) (xs : List A) → AllByRecursion P xs
+    → AllByRecursion (λ x. (p x ≡ true) × P x) (filter p xs)
 all_filter P p [] h = tt
 all_filter P p (x ∷ xs) h = chosen (p x) refl (all_filter P p xs h.1)
   where
-    chosen : (b : Bool) → p x ≡ b → AllByRecursion (λ x. (p x ≡ true) × P x) (filter p xs) → AllByRecursion (λ x. (p x ≡ true) × P x) (cond b (x ∷ filter p xs) (filter p xs))
+    chosen : (b : Bool) → p x ≡ b → AllByRecursion (λ x. (p x ≡ true) × P x) (filter p xs) → AllByRecursion (λ x. (p x ≡ true) × P x)
+        (cond b (x ∷ filter p xs) (filter p xs))
     chosen true e rest = ((e, h.0), rest)
     chosen false e rest = rest
 
+pub all_split : {A : Type 0} (P : A → Type 0) (xs ys : List A) → AllByRecursion P (xs ++ ys) → AllByRecursion P xs × AllByRecursion P ys
+all_split P [] ys h = (tt, h)
+all_split P (x ∷ xs) ys h = let rest = all_split P xs ys h.1 in ((h.0, rest.0), rest.1)
+
+pub all_reversed : {A : Type 0} (P : A → Type 0) (xs : List A) → AllByRecursion P (reverse xs) → AllByRecursion P xs
+all_reversed P [] h = tt
+all_reversed P (x ∷ xs) h =
+    let parts = all_split P (reverse xs) (x ∷ []) (subst (AllByRecursion P) (reverse_onto xs x []) h) in
+    (parts.1.0, all_reversed P xs parts.0)
+
+-- nothing is asked of each
+pub all_trivial : {A : Type 0} (xs : List A) → AllByRecursion (λ x. Unit {0}) xs
+all_trivial [] = tt
+all_trivial (x ∷ xs) = (tt, all_trivial xs)
+
+-- ---- the element at a place
+
+pub some_at : {A : Type 0} (xs : List A) (k : ℕ) → k < length xs → (x : A) × (slice_get xs k ≡ Some x)
+some_at [] k h = absurd (omega (arith, h))
+some_at (x ∷ xs) zero h = (x, refl)
+some_at (x ∷ xs) (suc k) h = some_at xs k (omega (arith, h))
+
+-- what holds of each holds at a place, where it holds of what stands for none
+pub or_none : {A : Type 0} (P : A → Type 0) (xs : List A) (k : ℕ) (d : A) → P d → AllByRecursion P xs → P (unwrap_or (slice_get xs k) d)
+or_none P [] k d h all = h
+or_none P (x ∷ xs) zero d h all = all.0
+or_none P (x ∷ xs) (suc k) d h all = or_none P xs k d h all.1
+
 -- ---- what holds of each pair
 
-pub pairs_weaker : {A : Type 0} (R S : A → A → Type 0) → ((x y : A) → R x y → S x y) → (xs : List A) → PairsByRecursion R xs → PairsByRecursion S xs
+pub pairs_weaker : {A : Type 0} (R S : A → A → Type 0) → ((x y : A) → R x y → S x y) → (xs : List A) → PairsByRecursion R xs
+    → PairsByRecursion S xs
 pairs_weaker R S f [] h = tt
 pairs_weaker R S f (x ∷ xs) h = (all_weaker (R x) (S x) (f x) xs h.0, pairs_weaker R S f xs h.1)
 
-pub pairs_map : {A B : Type 0} (R : B → B → Type 0) (f : A → B) (xs : List A) → PairsByRecursion (λ x y. R (f x) (f y)) xs → PairsByRecursion R (map f xs)
+pub pairs_map : {A B : Type 0} (R : B → B → Type 0) (f : A → B) (xs : List A) → PairsByRecursion (λ x y. R (f x) (f y)) xs
+    → PairsByRecursion R (map f xs)
 pairs_map R f [] h = tt
 pairs_map R f (x ∷ xs) h = (all_map (R (f x)) f xs h.0, pairs_map R f xs h.1)
 
@@ -60,7 +96,8 @@ pairs_map R f (x ∷ xs) h = (all_map (R (f x)) f xs h.0, pairs_map R f xs h.1)
 abbrev pub Cross : {A : Type 0} → (A → A → Type 0) → List A → List A → Type 0
 Cross R xs ys = AllByRecursion (λ x. AllByRecursion (R x) ys) xs
 
-pub pairs_append : {A : Type 0} (R : A → A → Type 0) (xs ys : List A) → PairsByRecursion R xs → PairsByRecursion R ys → Cross R xs ys → PairsByRecursion R (xs ++ ys)
+pub pairs_append : {A : Type 0} (R : A → A → Type 0) (xs ys : List A) → PairsByRecursion R xs → PairsByRecursion R ys → Cross R xs ys
+    → PairsByRecursion R (xs ++ ys)
 pairs_append R [] ys h g c = g
 pairs_append R (x ∷ xs) ys h g c = (all_append (R x) xs ys h.0 c.0, pairs_append R xs ys h.1 g c.1)
 
@@ -85,13 +122,15 @@ pairs_filter R p (x ∷ xs) h = chosen (p x) refl (pairs_filter R p xs h.1)
     chosen : (b : Bool) → p x ≡ b → PairsByRecursion (λ x y. (p x ≡ true) × (p y ≡ true) × R x y) (filter p xs)
         → PairsByRecursion (λ x y. (p x ≡ true) × (p y ≡ true) × R x y) (cond b (x ∷ filter p xs) (filter p xs))
     chosen true e rest = (
-      all_weaker (λ y. (p y ≡ true) × R x y) (λ y. (p x ≡ true) × (p y ≡ true) × R x y) (λ y k. (e, k.0, k.1)) (filter p xs) (all_filter (R x) p xs h.0),
+      all_weaker (λ y. (p y ≡ true) × R x y) (λ y. (p x ≡ true) × (p y ≡ true) × R x y) (λ y k. (e, k.0, k.1)) (filter p xs)
+          (all_filter (R x) p xs h.0),
       rest,
     )
     chosen false e rest = rest
 
 -- each pair of a list, also of an element with itself and in both orders
-pub square : {A : Type 0} (Q : A → A → Type 0) (xs : List A) → AllByRecursion (λ x. Q x x) xs → PairsByRecursion (λ x y. Q x y × Q y x) xs → Cross Q xs xs
+pub square : {A : Type 0} (Q : A → A → Type 0) (xs : List A) → AllByRecursion (λ x. Q x x) xs → PairsByRecursion (λ x y. Q x y × Q y x) xs
+    → Cross Q xs xs
 square Q [] h g = tt
 square Q (x ∷ xs) h g = (
   (h.0, all_weaker (λ y. Q x y × Q y x) (Q x) (λ y k. k.0) xs g.0),
@@ -116,12 +155,9 @@ none_mapped {A} {B} h (x ∷ xs) e = by (h x) refl e (none_mapped h xs)
     by None same none rest = (same, rest none)
     by (Some y) same none rest = cc
 
-all_split : {A : Type 0} (P : A → Type 0) (ys zs : List A) → AllByRecursion P (ys ++ zs) → AllByRecursion P ys × AllByRecursion P zs
-all_split P [] zs k = (tt, k)
-all_split P (y ∷ ys) zs k = let rest = all_split P ys zs k.1 in ((k.0, rest.0), rest.1)
-
 -- what holds of a list that is joined holds of its parts
-pub all_parts : {A B : Type 0} (P : B → Type 0) (f : A → List B) (xs : List A) → AllByRecursion P (flat_map f xs) → AllByRecursion (λ x. AllByRecursion P (f x)) xs
+pub all_parts : {A B : Type 0} (P : B → Type 0) (f : A → List B) (xs : List A) → AllByRecursion P (flat_map f xs)
+    → AllByRecursion (λ x. AllByRecursion P (f x)) xs
 all_parts P f [] h = tt
 all_parts P f (x ∷ xs) h = let parts = all_split P (f x) (flat_map f xs) h in (parts.0, all_parts P f xs parts.1)
 
@@ -173,7 +209,8 @@ from_flat_map {A} {B} f (x ∷ xs) y a = elim (among_either y (f x) (flat_map f 
   | inr b ↦ let rest = from_flat_map f xs y b in (rest.0, inr rest.1, rest.2)
 ]
 
-pub among_filter_map : {A B : Type 0} (h : A → Option B) (xs : List A) (x : A) (y : B) → Among x xs → h x ≡ Some y → Among y (filter_map h xs)
+pub among_filter_map : {A B : Type 0} (h : A → Option B) (xs : List A) (x : A) (y : B) → Among x xs → h x ≡ Some y
+    → Among y (filter_map h xs)
 among_filter_map h [] x y a e = absurd a
 among_filter_map h (z ∷ xs) x y (inl same) e = subst (λ o. Among y (cons_option o (filter_map h xs))) (sym e ∙ ap h same) (inl refl)
 among_filter_map {A} {B} h (z ∷ xs) x y (inr a) e = by (h z) (among_filter_map h xs x y a e)
@@ -182,25 +219,31 @@ among_filter_map {A} {B} h (z ∷ xs) x y (inr a) e = by (h z) (among_filter_map
     by None b = b
     by (Some w) b = inr b
 
-pub from_filter_map : {A B : Type 0} (h : A → Option B) (xs : List A) (y : B) → Among y (filter_map h xs) → (x : A) × Among x xs × (h x ≡ Some y)
+pub from_filter_map : {A B : Type 0} (h : A → Option B) (xs : List A) (y : B) → Among y (filter_map h xs) → (x : A) × Among x xs
+    × (h x ≡ Some y)
 from_filter_map h [] y a = absurd a
 from_filter_map {A} {B} h (x ∷ xs) y a = by (h x) refl a (from_filter_map h xs y)
   where
     further : (x' : A) × Among x' xs × (h x' ≡ Some y) → (x' : A) × Among x' (x ∷ xs) × (h x' ≡ Some y)
     further r = (r.0, inr r.1, r.2)
 
-    by : (o : Option B) → h x ≡ o → Among y (cons_option o (filter_map h xs)) → (Among y (filter_map h xs) → (x' : A) × Among x' xs × (h x' ≡ Some y))
+    by : (o : Option B) → h x ≡ o → Among y (cons_option o (filter_map h xs)) → (Among y (filter_map h xs) → (x' : A) × Among x' xs
+        × (h x' ≡ Some y))
         → (x' : A) × Among x' (x ∷ xs) × (h x' ≡ Some y)
     by None e b rest = further (rest b)
     by (Some w) e (inl same) rest = (x, inl refl, e ∙ ap (λ v. Some v) (sym same))
     by (Some w) e (inr b) rest = further (rest b)
 
-pub pairs_filter_map : {A B : Type 0} (R : A → A → Type 0) (S : B → B → Type 0) (h : A → Option B) → ((x y : A) (v w : B) → h x ≡ Some v → h y ≡ Some w → R x y → S v w)
+pub pairs_filter_map : {A B : Type 0} (R : A → A → Type 0) (S : B → B → Type 0) (h : A → Option B)
+    → ((x y : A) (v w : B) → h x ≡ Some v → h y ≡ Some w → R x y → S v w)
     → (xs : List A) → PairsByRecursion R xs → PairsByRecursion S (filter_map h xs)
 pairs_filter_map R S h f [] k = tt
 pairs_filter_map {A} {B} R S h f (x ∷ xs) k = by (h x) refl (pairs_filter_map R S h f xs k.1)
   where
     by : (o : Option B) → h x ≡ o → PairsByRecursion S (filter_map h xs) → PairsByRecursion S (cons_option o (filter_map h xs))
     by None e rest = rest
-    by (Some v) e rest =
-        (among_all (S v) (filter_map h xs) (λ w a. let from = from_filter_map h xs w a in f x from.0 v w e from.2 (all_among (R x) xs from.0 k.0 from.1)), rest)
+    by (Some v) e rest = (
+      among_all (S v) (filter_map h xs) (λ w a. let from = from_filter_map h xs w a in
+          f x from.0 v w e from.2 (all_among (R x) xs from.0 k.0 from.1)),
+      rest,
+    )

@@ -1,5 +1,7 @@
 -- The meaning of a loop, element by element, has three cases.
-use Rattle.std.specs.Prelude.{◌≡◌, refl, ℕ, zero, suc, ◌+◌, ◌-◌, ◌<◌, ◌≤◌, ℤ, pos, negsuc, ◌+ℤ◌, ◌<ℤ◌, ◌⊎◌, Bool, true, false, not, ◌&&◌, ◌==◌, int_le, if◌then◌else◌, List, [], ◌∷◌, length, map, flat_map, fold, slice_get, unwrap_or, All, Option, Some, None, IsSome, is_some, IsSomeAnd}
+use Rattle.std.specs.Prelude.{◌≡◌, refl, ℕ, zero, suc, ◌+◌, ◌-◌, ◌<◌, ◌≤◌, ℤ, pos, negsuc, ◌+ℤ◌, ◌<ℤ◌, ◌⊎◌, Bool, true, false, not, ◌&&◌}
+use Rattle.std.specs.Prelude.{◌==◌, int_le, if◌then◌else◌, List, [], ◌∷◌, length, map, flat_map, fold, slice_get, unwrap_or, All, Option}
+use Rattle.std.specs.Prelude.{Some, None, IsSome, is_some, IsSomeAnd}
 use Rattle.std.specs.List.{AllByRecursion}
 use Rattle.std.specs.Option.{option_map_or}
 use Rattle.std.proofs.Common.{ap, sym, ◌∙◌, subst, arith, inl, inr}
@@ -11,9 +13,11 @@ use Rattle.fd_words.specs.Lists.{list_at}
 use Rattle.fd_words.specs.declared.combine.Combine.{Combine}
 use Rattle.fd_words.specs.declared.place.Offence.{Offence}
 use Rattle.fd_program.specs.Checks.{IsSite, IsStatement, IsPlain, Agree, target_array}
-use Rattle.fd_program.specs.ListLaws.{PairsByRecursion, pairs_from_AllPairs, all_weaker, all_map, Cross, pairs_weaker, pairs_map, pairs_flat_map, pairs_filter, square, pairs_of, none_mapped, all_parts, all_at}
+use Rattle.fd_program.specs.ListLaws.{PairsByRecursion, pairs_from_AllPairs, all_weaker, all_map, Cross, pairs_weaker, pairs_map}
+use Rattle.fd_program.specs.ListLaws.{pairs_flat_map, pairs_filter, square, pairs_of, none_mapped, all_parts, all_at}
 use Rattle.fd_program.specs.LoopLaws.{reaches, writes_to, applied, element_after_writes}
-use Rattle.fd_program.specs.Loops.{Write, changed, target_of, operator_of, write_of, writes_at, writes_of, after_loop, offence_at, offence_of, first_of, counted_from, iterations_of, count_between}
+use Rattle.fd_program.specs.Loops.{Write, changed, target_of, operator_of, write_of, writes_at, writes_of, after_loop, offence_at}
+use Rattle.fd_program.specs.Loops.{offence_of, first_of, counted_from, iterations_of, count_between}
 use Rattle.fd_program.specs.Stores.{number_at, is_within, array_at, place_of}
 use Rattle.fd_program.specs.Texts.{array_of}
 use Rattle.fd_program.specs.Uses.{subscript_of, use_of, uses_from, uses_of, use_at, no_use, index_value}
@@ -77,9 +81,16 @@ three_of (w ∷ ws) old new h e = by w.operator refl
     by : (o : Option Combine) → w.operator ≡ o → IsOneOfThree (w ∷ ws) old new
     by None none =
         let lone : ws ≡ [] = alone ws h.0 none in
-        inl (record { write = w; only = ap (λ vs. w ∷ vs) lone; plain = none; value = e ∙ ap (λ vs. fold applied old (w ∷ vs)) lone ∙ ap (λ o. changed o old w.value) none })
+        inl (record {
+          write = w;
+          only = ap (λ vs. w ∷ vs) lone;
+          plain = none;
+          value = e ∙ ap (λ vs. fold applied old (w ∷ vs)) lone
+              ∙ ap (λ o. changed o old w.value) none;
+        })
     by (Some op) some =
-        let all : AllByRecursion (λ (v : Write). v.operator ≡ Some op) (w ∷ ws) = (some, all_weaker (Together w) (λ (v : Write). v.operator ≡ Some op) (λ v k. sym k.1 ∙ some) ws h.0) in
+        let all : AllByRecursion (λ (v : Write). v.operator ≡ Some op) (w ∷ ws) =
+        (some, all_weaker (Together w) (λ (v : Write). v.operator ≡ Some op) (λ v k. sym k.1 ∙ some) ws h.0) in
         inr (inl (record {
           operator = op;
           each = All-from_recursion (λ (v : Write). v.operator ≡ Some op) (w ∷ ws) all;
@@ -88,8 +99,10 @@ three_of (w ∷ ws) old new h e = by w.operator refl
 
 -- ---- the array and the subscript of a use
 
-array_at_use : (arrays : List ArrayFacts) (adds : List ℤ) (store : List (List ℤ)) (i : ℤ) (place : ℕ) (before : Option ℤ) (references : List Reference) (k : ℕ)
-    → (unwrap_or (slice_get (uses_from arrays adds store i place before references) k) no_use).array ≡ option_map_or (λ (r : Reference). r.array) (slice_get references k) 0
+array_at_use : (arrays : List ArrayFacts) (adds : List ℤ) (store : List (List ℤ)) (i : ℤ) (place : ℕ) (before : Option ℤ)
+    (references : List Reference) (k : ℕ)
+    → (unwrap_or (slice_get (uses_from arrays adds store i place before references) k) no_use).array ≡ option_map_or
+    (λ (r : Reference). r.array) (slice_get references k) 0
 array_at_use arrays adds store i place before [] k = refl
 array_at_use arrays adds store i place before (r ∷ rs) zero = refl
 array_at_use arrays adds store i place before (r ∷ rs) (suc k) = array_at_use arrays adds store i (place + 1) _ rs k
@@ -112,7 +125,8 @@ plain_first (Scalar s) i add before h = absurd h
 plain_use : (r : Reference) (i add : ℤ) (number : ℕ) (s : Option ℤ) → s ≡ Some (i +ℤ add) → IsPlainUse i add (use_of r i number s)
 plain_use r i add number s e = record { defined = ap is_some e; subscript = ap (λ o. unwrap_or o (pos 0)) e }
 
-plain_from : (arrays : List ArrayFacts) (adds : List ℤ) (store : List (List ℤ)) (i : ℤ) (place : ℕ) (before : Option ℤ) (references : List Reference) (k : ℕ) (r : Reference)
+plain_from : (arrays : List ArrayFacts) (adds : List ℤ) (store : List (List ℤ)) (i : ℤ) (place : ℕ) (before : Option ℤ)
+    (references : List Reference) (k : ℕ) (r : Reference)
     → slice_get references k ≡ Some r → IsPlain r.subscript
     → IsPlainUse i (number_at adds (place + k)) (unwrap_or (slice_get (uses_from arrays adds store i place before references) k) no_use)
 plain_from arrays adds store i place before [] k r e h = cc
@@ -120,7 +134,8 @@ plain_from arrays adds store i place before (x ∷ xs) zero r e h =
     let same : r ≡ x = cc in
     let at : place + zero ≡ place = omega arith in
     plain_use x i (number_at adds (place + zero)) (place + 1) _
-    (plain_first x.subscript i (number_at adds place) before (subst (λ (y : Reference). IsPlain y.subscript) same h) ∙ ap (λ p. Some (i +ℤ number_at adds p)) (sym at))
+    (plain_first x.subscript i (number_at adds place) before (subst (λ (y : Reference). IsPlain y.subscript) same h)
+    ∙ ap (λ p. Some (i +ℤ number_at adds p)) (sym at))
 plain_from arrays adds store i place before (x ∷ xs) (suc k) r e h =
     let at : place + 1 + k ≡ place + suc k = omega arith in
     let next = index_value arrays store (use_of x i (place + 1) (subscript_of x.subscript i (number_at adds place) before)) in
@@ -134,7 +149,8 @@ if_none true true o e f = refl
 if_none true false o e f = cc
 if_none false b o e f = cc
 
-sound_use : (arrays : List ArrayFacts) (u : Use) → offence_at arrays u ≡ None → u.defined ≡ true → is_within arrays u.array u.subscript ≡ true
+sound_use : (arrays : List ArrayFacts) (u : Use) → offence_at arrays u ≡ None → u.defined ≡ true → is_within arrays u.array u.subscript
+    ≡ true
 sound_use arrays u none defined = if_none u.defined (is_within arrays u.array u.subscript) _ none defined
 
 -- no reference is an offence at this iteration
@@ -145,7 +161,8 @@ none_first : {A : Type 0} (xs : List A) → first_of xs ≡ None → xs ≡ []
 none_first [] e = refl
 none_first (x ∷ xs) e = cc
 
-pub all_sound : (arrays : List ArrayFacts) (site : Site) (turn : LoopTurn) (store : List (List ℤ)) → offence_of arrays site turn store ≡ None
+pub all_sound : (arrays : List ArrayFacts) (site : Site) (turn : LoopTurn) (store : List (List ℤ)) → offence_of arrays site turn store
+    ≡ None
     → AllByRecursion (IsSound arrays site turn store) (iterations_of turn)
 all_sound arrays site turn store none =
     all_parts (λ u. offence_at arrays u ≡ None) (uses_of arrays site turn store) (iterations_of turn)
@@ -154,7 +171,8 @@ all_sound arrays site turn store none =
 abbrev at_place : List Use → ℕ → Use
 at_place uses k = unwrap_or (slice_get uses k) no_use
 
-sound_at : (arrays : List ArrayFacts) (uses : List Use) (k : ℕ) → AllByRecursion (λ u. offence_at arrays u ≡ None) uses → (at_place uses k).defined ≡ true
+sound_at : (arrays : List ArrayFacts) (uses : List Use) (k : ℕ) → AllByRecursion (λ u. offence_at arrays u ≡ None) uses
+    → (at_place uses k).defined ≡ true
     → is_within arrays (at_place uses k).array (at_place uses k).subscript ≡ true
 sound_at arrays uses k sound defined = by (slice_get uses k) refl defined
   where
@@ -174,7 +192,8 @@ place_is : (z : ℤ) (n place : ℕ) → z ≡ pos (suc n) → place_of z ≡ pl
 place_is z n place e f =
     let at : suc n - 1 ≡ place = sym (ap place_of e) ∙ f in omega arith
 
-never_same : (i j add e d : ℤ) (place : ℕ) → (int_le (pos 1) (i +ℤ add) && int_le (i +ℤ add) e) ≡ true → (int_le (pos 1) (j +ℤ add) && int_le (j +ℤ add) d) ≡ true
+never_same : (i j add e d : ℤ) (place : ℕ) → (int_le (pos 1) (i +ℤ add) && int_le (i +ℤ add) e) ≡ true
+    → (int_le (pos 1) (j +ℤ add) && int_le (j +ℤ add) d) ≡ true
     → place_of (i +ℤ add) ≡ place → place_of (j +ℤ add) ≡ place → i <ℤ j → ⊥
 never_same i j add e d place h g at there less =
     let one = from_one (i +ℤ add) e h in
@@ -223,7 +242,8 @@ module _ (arrays : List ArrayFacts) (site : Site) (turn : LoopTurn) (store : Lis
   turned i j s t meets g h = let both = meets h g in (subst (λ o. is_some o ≡ true) both.1 both.0, sym both.1)
 
   -- one statement at two iterations
-  meets_itself : (i j : ℤ) (s : CheckedBody) → i <ℤ j → IsSound arrays site turn store i → IsSound arrays site turn store j → IsStatement site s → Meets i j s s
+  meets_itself : (i j : ℤ) (s : CheckedBody) → i <ℤ j → IsSound arrays site turn store i → IsSound arrays site turn store j
+      → IsStatement site s → Meets i j s s
   meets_itself i j s less here there known h g = by (operator_of s) refl
     where
       clash : (number : ℕ) → target_of s ≡ number → operator_of s ≡ None → ⊥
@@ -238,11 +258,17 @@ module _ (arrays : List ArrayFacts) (site : Site) (turn : LoopTurn) (store : Lis
           let within_i = sound_at arrays (uses_of arrays site turn store i) k here u.defined in
           let within_j = sound_at arrays (uses_of arrays site turn store j) k there v.defined in
           let place_i : place_of (i +ℤ add) ≡ place =
-          ap place_of (sym u.subscript) ∙ ap (λ n. place_of (use_at (uses_of arrays site turn store i) n).subscript) (sym e) ∙ reached_place array place (write_at i s) h in
+          ap place_of (sym u.subscript) ∙ ap (λ n. place_of (use_at (uses_of arrays site turn store i) n).subscript) (sym e)
+          ∙ reached_place array place (write_at i s) h in
           let place_j : place_of (j +ℤ add) ≡ place =
-          ap place_of (sym v.subscript) ∙ ap (λ n. place_of (use_at (uses_of arrays site turn store j) n).subscript) (sym e) ∙ reached_place array place (write_at j s) g in
-          let low = ap (λ z. int_le (pos 1) z && int_le z (pos (array_at arrays (at_place (uses_of arrays site turn store i) k).array).extent)) (sym u.subscript) ∙ within_i in
-          let high = ap (λ z. int_le (pos 1) z && int_le z (pos (array_at arrays (at_place (uses_of arrays site turn store j) k).array).extent)) (sym v.subscript) ∙ within_j in
+          ap place_of (sym v.subscript) ∙ ap (λ n. place_of (use_at (uses_of arrays site turn store j) n).subscript) (sym e)
+          ∙ reached_place array place (write_at j s) g in
+          let low = ap (λ z. int_le (pos 1) z
+          && int_le z (pos (array_at arrays (at_place (uses_of arrays site turn store i) k).array).extent)) (sym u.subscript)
+          ∙ within_i in
+          let high = ap (λ z. int_le (pos 1) z
+          && int_le z (pos (array_at arrays (at_place (uses_of arrays site turn store j) k).array).extent)) (sym v.subscript)
+          ∙ within_j in
           never_same i j add _ _ place low high place_i place_j less
 
       by : (o : Option Combine) → operator_of s ≡ o → Together (write_at i s) (write_at j s)
@@ -256,15 +282,18 @@ module _ (arrays : List ArrayFacts) (site : Site) (turn : LoopTurn) (store : Lis
       let itself = all_weaker (IsStatement site) (λ s. Meets i j s s) (λ s k. meets_itself i j s less here there k) site.body
       (recursion_from_All (IsStatement site) site.body known.body) in
       let all = square (Meets i j) site.body itself
-      (pairs_weaker (Agree site) (λ s t. Meets i j s t × Meets i j t s) (λ s t agree. (meets_other i j s t agree, turned j i s t (meets_other j i s t agree))) site.body agreed) in
+      (pairs_weaker (Agree site) (λ s t. Meets i j s t × Meets i j t s)
+      (λ s t agree. (meets_other i j s t agree, turned j i s t (meets_other j i s t agree))) site.body agreed) in
       all_map (λ v. AllByRecursion (Agreeing array place v) (writes_at arrays site turn store j)) (write_at i) site.body
-      (all_weaker (λ s. AllByRecursion (Meets i j s) site.body) (λ s. AllByRecursion (Agreeing array place (write_at i s)) (writes_at arrays site turn store j))
+      (all_weaker (λ s. AllByRecursion (Meets i j s) site.body) (λ s. AllByRecursion (Agreeing array place (write_at i s))
+      (writes_at arrays site turn store j))
       (λ s k. all_map (Agreeing array place (write_at i s)) (write_at j) site.body k) site.body all)
 
   meets_within : (i : ℤ) → IsSite arrays site → PairsByRecursion (Agreeing array place) (writes_at arrays site turn store i)
   meets_within i known =
       pairs_map (Agreeing array place) (write_at i) site.body
-      (pairs_weaker (Agree site) (Meets i i) (λ s t agree. meets_other i i s t agree) site.body (pairs_from_AllPairs (Agree site) site.body known.agreed))
+      (pairs_weaker (Agree site) (Meets i i) (λ s t agree. meets_other i i s t agree) site.body
+      (pairs_from_AllPairs (Agree site) site.body known.agreed))
 
 -- a range ascends
 all_above : (low z : ℤ) (n : ℕ) → low <ℤ z → AllByRecursion (λ j. low <ℤ j) (counted_from z n)
@@ -273,7 +302,8 @@ all_above low z (suc n) h = let next : low <ℤ (z +ℤ pos 1) = omega (arith, i
 
 pub range_ascends : (z : ℤ) (n : ℕ) → PairsByRecursion (λ i j. i <ℤ j) (counted_from z n)
 range_ascends z zero = tt
-range_ascends z (suc n) = let next : z <ℤ (z +ℤ pos 1) = omega (arith, ints) in (all_above z (z +ℤ pos 1) n next, range_ascends (z +ℤ pos 1) n)
+range_ascends z (suc n) = let next : z <ℤ (z +ℤ pos 1) = omega (arith, ints) in
+    (all_above z (z +ℤ pos 1) n next, range_ascends (z +ℤ pos 1) n)
 
 pub writes_agree : (arrays : List ArrayFacts) (site : Site) (turn : LoopTurn) (store : List (List ℤ)) (array place : ℕ) → IsSite arrays site
     → offence_of arrays site turn store ≡ None → PairsByRecursion (Agreeing array place) (writes_of arrays site turn store)
@@ -282,14 +312,17 @@ writes_agree arrays site turn store array place known none =
     pairs_flat_map (Agreeing array place) (writes_at arrays site turn store) (iterations_of turn)
     (all_weaker (IsSound arrays site turn store) (λ i. PairsByRecursion (Agreeing array place) (writes_at arrays site turn store i))
     (λ i k. meets_within arrays site turn store array place i known) (iterations_of turn) sound)
-    (pairs_of (IsSound arrays site turn store) (λ i j. i <ℤ j) (λ i j. Cross (Agreeing array place) (writes_at arrays site turn store i) (writes_at arrays site turn store j))
+    (pairs_of (IsSound arrays site turn store) (λ i j. i <ℤ j) (λ i j. Cross (Agreeing array place) (writes_at arrays site turn store i)
+    (writes_at arrays site turn store j))
     (λ i j here there less. meets_across arrays site turn store array place i j less here there known) (iterations_of turn) sound
     (range_ascends turn.low (count_between turn.low turn.high)))
 
 pub three_cases : LoopHasThreeCases
 three_cases arrays site turn store array place known none ha hp =
-    let agreed = pairs_filter (Agreeing array place) (reaches array place) (writes_of arrays site turn store) (writes_agree arrays site turn store array place known none) in
+    let agreed = pairs_filter (Agreeing array place) (reaches array place) (writes_of arrays site turn store)
+    (writes_agree arrays site turn store array place known none) in
     three_of (writes_to array place (writes_of arrays site turn store)) _ _
-    (pairs_weaker (λ v w. (reaches array place v ≡ true) × (reaches array place w ≡ true) × Agreeing array place v w) Together (λ v w k. k.2 k.0 k.1)
+    (pairs_weaker (λ v w. (reaches array place v ≡ true) × (reaches array place w ≡ true) × Agreeing array place v w) Together
+    (λ v w k. k.2 k.0 k.1)
     (writes_to array place (writes_of arrays site turn store)) agreed)
     (element_after_writes (writes_of arrays site turn store) store array place ha hp)

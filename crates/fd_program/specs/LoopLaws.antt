@@ -1,5 +1,6 @@
 -- What a FORALL leaves at one element.
-use Rattle.std.specs.Prelude.{◌≡◌, ◌≢◌, ◌<◌, ℕ, ℤ, pos, Bool, true, false, ◌&&◌, ◌==◌, if◌then◌else◌, List, [], ◌∷◌, length, fold, filter, unwrap_or, slice_get, slice_set, refl}
+use Rattle.std.specs.Prelude.{◌≡◌, ◌≢◌, ◌<◌, ℕ, ℤ, pos, Bool, true, false, ◌&&◌, ◌==◌, if◌then◌else◌, List, [], ◌∷◌, length, fold, filter}
+use Rattle.std.specs.Prelude.{unwrap_or, slice_get, slice_set, refl}
 use Rattle.std.proofs.Common.{ap, sym, cond, ◌∙◌, get_or-set_other, get_or-set_same, inl, inr, subst}
 use Rattle.std.proofs.Math.ListN.{set}
 use Rattle.std.proofs.lemmas.Bool.Decides.{eqb_tells}
@@ -35,7 +36,8 @@ pub at_set_same : {X : Type 0} (xs : List X) (i j : ℕ) (y d : X) → i ≡ j �
 at_set_same xs i j y d e h =
     ap (λ k. unwrap_or (slice_get (set xs k y) j) d) e ∙ unwrap_or-slice_get (set xs j y) j d ∙ get_or-set_same xs j y d h
 
-pub at_set_other : {X : Type 0} (xs : List X) (i j : ℕ) (y d : X) → i ≢ j → unwrap_or (slice_get (set xs i y) j) d ≡ unwrap_or (slice_get xs j) d
+pub at_set_other : {X : Type 0} (xs : List X) (i j : ℕ) (y d : X) → i ≢ j → unwrap_or (slice_get (set xs i y) j) d
+    ≡ unwrap_or (slice_get xs j) d
 at_set_other xs i j y d e =
     unwrap_or-slice_get (set xs i y) j d ∙ get_or-set_other xs i j y d (λ f. e (sym f)) ∙ sym (unwrap_or-slice_get xs j d)
 
@@ -51,7 +53,8 @@ first_false a b x y f = sym (ap (λ t. if t && b then x else y) f)
 
 pub element_written : (store : List (List ℤ)) (w : Write) (array place : ℕ) → array < length store → place < length (list_at store array)
     → number_at (list_at (written store w) array) place
-    ≡ (if reaches array place w then changed w.operator (number_at (list_at store array) place) w.value else number_at (list_at store array) place)
+    ≡ (if reaches array place w then changed w.operator (number_at (list_at store array) place) w.value else number_at
+    (list_at store array) place)
 element_written store w array place ha hp =
     let old = number_at (list_at store array) place in
     let new = changed w.operator old w.value in
@@ -66,7 +69,8 @@ element_written store w array place ha hp =
           elim (eqb_tells (place_of w.subscript) place) [
             | inl at ↦
                 let room : place < length (list_at store w.array) = subst (λ zs. place < length zs) (sym here) hp in
-                let was : element store w.array w.subscript ≡ old = ap (λ zs. number_at zs (place_of w.subscript)) here ∙ ap (number_at (list_at store array)) at.1 in
+                let was : element store w.array w.subscript ≡ old = ap (λ zs. number_at zs (place_of w.subscript)) here
+                ∙ ap (number_at (list_at store array)) at.1 in
                 ap (λ zs. number_at zs place) row
                 ∙ at_set_same (list_at store w.array) (place_of w.subscript) place put (pos 0) at.1 room
                 ∙ ap (λ z. changed w.operator z w.value) was
@@ -83,7 +87,8 @@ element_written store w array place ha hp =
     ]
 
 -- a write keeps the length of each list
-pub length-written : (store : List (List ℤ)) (w : Write) (array : ℕ) → array < length store → length (list_at (written store w) array) ≡ length (list_at store array)
+pub length-written : (store : List (List ℤ)) (w : Write) (array : ℕ) → array < length store → length (list_at (written store w) array)
+    ≡ length (list_at store array)
 length-written store w array ha =
     let inner = slice_set (list_at store w.array) (place_of w.subscript) (changed w.operator (element store w.array w.subscript) w.value) in
     elim (eqb_tells w.array array) [
@@ -94,7 +99,8 @@ length-written store w array ha =
       | inr other ↦ ap length (at_set_other store w.array array inner [] other.1)
     ]
 
-fold_chosen : (b : Bool) (w : Write) (ws : List Write) (old : ℤ) → fold applied old (cond b (w ∷ ws) ws) ≡ fold applied (if b then applied old w else old) ws
+fold_chosen : (b : Bool) (w : Write) (ws : List Write) (old : ℤ) → fold applied old (cond b (w ∷ ws) ws) ≡ fold applied
+    (if b then applied old w else old) ws
 fold_chosen true w ws old = refl
 fold_chosen false w ws old = refl
 

@@ -1,5 +1,6 @@
 -- What one execution of a FORALL does: its offence, if it has one, and else the store after it.
-use Rattle.std.specs.Prelude.{ℕ, zero, suc, ℤ, pos, ◌+ℤ◌, ◌-ℤ◌, not, ◌&&◌, if◌then◌else◌, List, [], ◌∷◌, map, fold, flat_map, filter_map, slice_set, Option, Some, None}
+use Rattle.std.specs.Prelude.{ℕ, zero, suc, ℤ, pos, ◌+ℤ◌, ◌-ℤ◌, not, ◌&&◌, if◌then◌else◌, List, [], ◌∷◌, map, fold, flat_map, filter_map}
+use Rattle.std.specs.Prelude.{slice_set, Option, Some, None}
 use Rattle.fd_words.specs.Combining.{combined}
 use Rattle.fd_words.specs.Lists.{list_at}
 use Rattle.fd_words.specs.declared.combine.Combine.{Combine}
@@ -103,7 +104,8 @@ changed (Some operator) old value = combined operator old value
 
 abbrev pub written : List (List ℤ) → Write → List (List ℤ)
 written store w =
-    slice_set store w.array (slice_set (list_at store w.array) (place_of w.subscript) (changed w.operator (element store w.array w.subscript) w.value))
+    slice_set store w.array (slice_set (list_at store w.array) (place_of w.subscript)
+    (changed w.operator (element store w.array w.subscript) w.value))
 
 -- the store after the loop, where it has no offence: all writes, one after another
 abbrev pub after_loop : List ArrayFacts → Site → LoopTurn → List (List ℤ) → List (List ℤ)

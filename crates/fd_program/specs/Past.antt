@@ -1,7 +1,8 @@
 -- What the steps before a step tell of it: the forms of the decompositions, changes, versions and records, and whether the step inspects.
 -- `past` has the steps before it, the latest first: the number of the step is their count, and one step more stands in front.
 -- No store is looked at, so all of it is known before the run.
-use Rattle.std.specs.Prelude.{ℕ, ◌+◌, pos, Bool, true, false, not, ◌&&◌, ◌==◌, if◌then◌else◌, List, [], ◌∷◌, ◌++◌, length, map, filter, Option, Some, None}
+use Rattle.std.specs.Prelude.{ℕ, ◌+◌, pos, Bool, true, false, not, ◌&&◌, ◌==◌, if◌then◌else◌, List, [], ◌∷◌, ◌++◌, length, map, filter}
+use Rattle.std.specs.Prelude.{Option, Some, None}
 use Rattle.std.specs.Cmp.Lexicographic.{pointwise}
 use Rattle.std.specs.List.{list_any}
 use Rattle.std.specs.Option.{option_map_or}
@@ -13,7 +14,7 @@ use Rattle.chaos_dist.specs.declared.step_form.StepForm.{StepForm}
 use Rattle.chaos_dist.specs.declared.step_form.StepForm.TheVariants.{Regular, Map}
 use Rattle.fd_program.specs.Places.{decomposition_of}
 use Rattle.fd_program.specs.Trace.{site_at, is_empty_turn}
-use Rattle.fd_program.specs.Uses.{is_index, is_target}
+use Rattle.fd_words.specs.Roles.{is_index, is_target}
 use Rattle.fd_program.specs.declared.checked.Checked.{Checked}
 use Rattle.fd_program.specs.declared.loop_record.LoopRecord.{LoopRecord}
 use Rattle.fd_program.specs.declared.reference.Reference.{Reference}
@@ -117,7 +118,8 @@ latest_of (Forall site turn ∷ past) k = if (site == k) && not (is_empty_turn t
 abbrev pub inspects_at : Checked → List Step → ℕ → LoopTurn → Bool
 inspects_at c past site turn =
     not (is_empty_turn turn)
-    && option_map_or (λ (latest, before). not (is_same_record (record_at c before site latest) (record_at c past site turn))) (latest_of past site) true
+    && option_map_or (λ (latest, before). not (is_same_record (record_at c before site latest) (record_at c past site turn)))
+    (latest_of past site) true
 
 -- the steps that inspect, by number, in order
 abbrev pub inspects_step : Checked → List Step → Step → Bool

@@ -30,7 +30,8 @@ value_on arrays store array e =
 
 -- the local part of an array on a node
 abbrev pub part_of : List ArrayFacts → List (List ℕ) → List (List ℤ) → ℕ → ℕ → List ℤ
-part_of arrays owners store node array = map (value_on arrays store array) (elements_on (list_at owners (decomposition_of arrays array)) node)
+part_of arrays owners store node array = map (value_on arrays store array) (elements_on (list_at owners (decomposition_of arrays array))
+    node)
 
 -- the local parts of all arrays on a node
 abbrev pub parts_of : List ArrayFacts → List (List ℕ) → List (List ℤ) → ℕ → List (List ℤ)

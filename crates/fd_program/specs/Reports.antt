@@ -1,5 +1,6 @@
 -- The report of a run: how often each FORALL was executed and inspected, and how many elements were gathered and scattered for it.
-use Rattle.std.specs.Prelude.{ℕ, ◌+◌, ℤ, Bool, not, ◌&&◌, ◌==◌, if◌then◌else◌, List, [], ◌∷◌, ◌++◌, length, map, reverse, drop, sum_by, is_some, codes, decimal}
+use Rattle.std.specs.Prelude.{ℕ, ◌+◌, ℤ, Bool, not, ◌&&◌, ◌==◌, if◌then◌else◌, List, [], ◌∷◌, ◌++◌, length, map, reverse, drop, sum_by}
+use Rattle.std.specs.Prelude.{is_some, codes, decimal}
 use Rattle.chaos_dist.specs.Counting.{below}
 use Rattle.fd_program.specs.Cells.{Cell}
 use Rattle.fd_program.specs.Homes.{needed_of, given_of}
@@ -67,7 +68,8 @@ total_count nodes count = record {
 -- ---- the report
 
 abbrev pub executed_part : ℕ → SiteCount → List ℕ
-executed_part line n = codes "loop " ++ decimal line ++ codes ": executed " ++ decimal n.executed ++ codes ", inspected " ++ decimal n.inspected
+executed_part line n = codes "loop " ++ decimal line ++ codes ": executed " ++ decimal n.executed ++ codes ", inspected "
+    ++ decimal n.inspected
 
 abbrev pub moved_part : SiteCount → List ℕ
 moved_part n = codes ", gathered " ++ decimal n.gathered ++ codes ", scattered " ++ decimal n.scattered ++ 10 ∷ []

@@ -1,33 +1,25 @@
 -- The exact values of scalars and offsets. `variables` has the values of the enclosing DOs, the outermost first.
 use denote.Hole.Carrier.{hidden}
 use Rattle.fd_program.specs.declared.scalar.CheckedScalar.TheBlock.{shape-the_row-CheckedScalar-0, hidden-the_row-CheckedScalar-0}
-use Rattle.std.specs.Prelude.{◌≡◌, refl, ℤ, pos, ◌+ℤ◌, ◌-ℤ◌, ◌*ℤ◌, neg_ℤ, Bool, true, false, List, [], ◌∷◌}
+use Rattle.std.specs.Prelude.{◌≡◌, refl, ℤ, pos, neg_ℤ, List, [], ◌∷◌}
 use Rattle.fd_words.specs.declared.source.SourcePlace.{SourcePlace}
-use Rattle.fd_syntax.specs.declared.scalar.Arith.{Arith}
-use Rattle.fd_syntax.specs.declared.scalar.Arith.TheVariants.{Plus, Minus, Times}
+use Rattle.fd_words.specs.declared.arith.Arith.{Arith}
+use Rattle.fd_words.specs.Operators.{exactly, sign_of}
 use Rattle.fd_program.specs.Stores.{number_at}
-use Rattle.fd_program.specs.declared.scalar.CheckedScalar.{CheckedScalar, Number, Variable, Negate', Binary', more_of-CheckedScalar, end_of-CheckedScalar}
+use Rattle.fd_program.specs.declared.scalar.CheckedScalar.{CheckedScalar, Number, Variable, Negate', Binary', more_of-CheckedScalar}
+use Rattle.fd_program.specs.declared.scalar.CheckedScalar.{end_of-CheckedScalar}
 use Rattle.fd_program.specs.declared.scalar.CheckedScalar as scalar
 use Rattle.fd_program.specs.declared.scalar.CheckedTerm.{CheckedTerm}
 use Rattle.fd_program.specs.declared.reference.CheckedSubscript.{CheckedSubscript}
 use Rattle.fd_program.specs.declared.reference.CheckedSubscript.TheVariants.{Plain, Through, Scalar}
 
--- the exact sum, difference or product
-abbrev pub exactly : Arith → ℤ → ℤ → ℤ
-exactly Plus a b = a +ℤ b
-exactly Minus a b = a -ℤ b
-exactly Times a b = a *ℤ b
-
 abbrev pub scalar_value : List ℤ → CheckedScalar → ℤ
 scalar_value variables (Number value at) = value
 scalar_value variables (Variable depth at) = number_at variables depth
 scalar_value variables (Negate' at s (more_of-CheckedScalar inner end_of-CheckedScalar)) = neg_ℤ (scalar_value variables inner)
-scalar_value variables (Binary' op at s (more_of-CheckedScalar left end_of-CheckedScalar) t (more_of-CheckedScalar right end_of-CheckedScalar)) =
+scalar_value variables (Binary' op at s (more_of-CheckedScalar left end_of-CheckedScalar) t
+    (more_of-CheckedScalar right end_of-CheckedScalar)) =
     exactly op (scalar_value variables left) (scalar_value variables right)
-
-abbrev pub sign_of : Bool → Arith
-sign_of true = Minus
-sign_of false = Plus
 
 -- the terms added to what stands before them
 abbrev pub offset_value : List ℤ → ℤ → List CheckedTerm → ℤ

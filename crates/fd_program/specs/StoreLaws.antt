@@ -1,5 +1,6 @@
 -- A run keeps the lengths of a store's lists.
-use Rattle.std.specs.Prelude.{◌≡◌, refl, ℕ, zero, suc, ◌<◌, ℤ, pos, Bool, true, false, if◌then◌else◌, List, [], ◌∷◌, length, map, fold, zip, slice_set}
+use Rattle.std.specs.Prelude.{◌≡◌, refl, ℕ, zero, suc, ◌<◌, ℤ, pos, Bool, true, false, if◌then◌else◌, List, [], ◌∷◌, length, map, fold, zip}
+use Rattle.std.specs.Prelude.{slice_set}
 use Rattle.std.specs.List.{AllByRecursion}
 use Rattle.std.proofs.Common.{ap, sym, ◌∙◌, arith}
 use Rattle.std.proofs.lemmas.List.{length-set, length-replicate}
@@ -19,18 +20,21 @@ use Rattle.fd_program.specs.declared.trace.Step.TheVariants.{Distribute, Print, 
 -- each array has a list of its extent, through the whole run
 abbrev pub RunKeepsLengths : Type 0
 RunKeepsLengths =
-    (s : Scene) (past : List Step) → IsHistory s past → FitsStore s.checked.arrays (store_at s []) → FitsStore s.checked.arrays (store_at s past)
+    (s : Scene) (past : List Step) → IsHistory s past → FitsStore s.checked.arrays (store_at s [])
+    → FitsStore s.checked.arrays (store_at s past)
 
 -- the files have the extents of the arrays that are read
 abbrev pub FitFiles : List ArrayFacts → List (ℤ × List ℤ) → Type 0
 FitFiles arrays files = AllByRecursion (λ (f : ℤ × List ℤ). length f.1 ≡ (array_at arrays (natural f.0)).extent) files
 
 abbrev pub InitialStoreFits : Type 0
-InitialStoreFits = (c : Checked) (files : List (List ℤ)) → FitFiles c.arrays (zip c.reads files) → FitsStore c.arrays (initial_store c files)
+InitialStoreFits = (c : Checked) (files : List (List ℤ)) → FitFiles c.arrays (zip c.reads files)
+    → FitsStore c.arrays (initial_store c files)
 
 -- ---- one list in place of another
 
-same_lengths : (store : List (List ℤ)) (k : ℕ) (values : List ℤ) → (k < length store → length values ≡ length (list_at store k)) → map length (slice_set store k values) ≡ map length store
+same_lengths : (store : List (List ℤ)) (k : ℕ) (values : List ℤ) → (k < length store → length values ≡ length (list_at store k))
+    → map length (slice_set store k values) ≡ map length store
 same_lengths [] k values h = refl
 same_lengths (x ∷ xs) zero values h = ap (λ n. n ∷ map length xs) (h (omega arith))
 same_lengths (x ∷ xs) (suc k) values h = ap (λ ns. length x ∷ ns) (same_lengths xs k values (λ less. h (omega (arith, less))))
@@ -39,7 +43,8 @@ written_lengths : (ws : List Write) (store : List (List ℤ)) → map length (fo
 written_lengths [] store = refl
 written_lengths (w ∷ ws) store =
     written_lengths ws (written store w)
-    ∙ same_lengths store w.array _ (λ less. length-set (list_at store w.array) (place_of w.subscript) (changed w.operator (element store w.array w.subscript) w.value))
+    ∙ same_lengths store w.array _ (λ less. length-set (list_at store w.array) (place_of w.subscript)
+    (changed w.operator (element store w.array w.subscript) w.value))
 
 step_lengths : (c : Checked) (step : Step) (store : List (List ℤ)) → map length (after_step c step store) ≡ map length store
 step_lengths c (Distribute d form) store = refl
@@ -57,7 +62,8 @@ run_keeps_lengths s (step ∷ past) history fits =
 
 -- ---- the lists of a store that fits
 
-fits_place : (arrays : List ArrayFacts) (store : List (List ℤ)) (k : ℕ) → map length store ≡ map (λ (a : ArrayFacts). a.extent) arrays → k < length arrays
+fits_place : (arrays : List ArrayFacts) (store : List (List ℤ)) (k : ℕ) → map length store ≡ map (λ (a : ArrayFacts). a.extent) arrays
+    → k < length arrays
     → (k < length store) × (length (list_at store k) ≡ (array_at arrays k).extent)
 fits_place [] store k e less = absurd (omega arith)
 fits_place (a ∷ arrays) [] k e less = cc
@@ -75,9 +81,11 @@ length-list_at arrays store array fits less = fits_place arrays store array fits
 
 zeros_fit : (arrays : List ArrayFacts) → FitsStore arrays (zeros_of arrays)
 zeros_fit [] = refl
-zeros_fit (a ∷ arrays) = ap (λ n. n ∷ map length (zeros_of arrays)) (length-replicate a.extent (pos 0)) ∙ ap (λ ns. a.extent ∷ ns) (zeros_fit arrays)
+zeros_fit (a ∷ arrays) = ap (λ n. n ∷ map length (zeros_of arrays)) (length-replicate a.extent (pos 0))
+    ∙ ap (λ ns. a.extent ∷ ns) (zeros_fit arrays)
 
-listed_extent : (arrays : List ArrayFacts) (store : List (List ℤ)) (k : ℕ) → map length store ≡ map (λ (a : ArrayFacts). a.extent) arrays → k < length store
+listed_extent : (arrays : List ArrayFacts) (store : List (List ℤ)) (k : ℕ) → map length store ≡ map (λ (a : ArrayFacts). a.extent) arrays
+    → k < length store
     → length (list_at store k) ≡ (array_at arrays k).extent
 listed_extent arrays [] k e less = absurd (omega arith)
 listed_extent [] (x ∷ xs) k e less = cc
@@ -85,7 +93,8 @@ listed_extent (a ∷ arrays) (x ∷ xs) zero e less = cc
 listed_extent (a ∷ arrays) (x ∷ xs) (suc k) e less =
     let tail : map length xs ≡ map (λ (a : ArrayFacts). a.extent) arrays = cc in listed_extent arrays xs k tail (omega (arith, less))
 
-filled_fits : (arrays : List ArrayFacts) (store : List (List ℤ)) (files : List (ℤ × List ℤ)) → FitFiles arrays files → FitsStore arrays store → FitsStore arrays (fold filled store files)
+filled_fits : (arrays : List ArrayFacts) (store : List (List ℤ)) (files : List (ℤ × List ℤ)) → FitFiles arrays files
+    → FitsStore arrays store → FitsStore arrays (fold filled store files)
 filled_fits arrays store [] h fits = fits
 filled_fits arrays store (f ∷ files) h fits =
     filled_fits arrays (filled store f) files h.1

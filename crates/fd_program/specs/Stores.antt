@@ -1,5 +1,6 @@
 -- Arrays and stores. A store has one list of values per array; element z of an array stands at place z - 1 of its list.
-use Rattle.std.specs.Prelude.{◌≡◌, ℕ, ◌-◌, ℤ, pos, negsuc, Bool, ◌&&◌, int_le, List, [], length, map, fold, zip, replicate, slice_get, slice_set, unwrap_or}
+use Rattle.std.specs.Prelude.{◌≡◌, ℕ, ◌-◌, ℤ, pos, negsuc, Bool, ◌&&◌, int_le, List, [], length, map, fold, zip, replicate, slice_get}
+use Rattle.std.specs.Prelude.{slice_set, unwrap_or}
 use Rattle.fd_words.specs.Lists.{list_at}
 use Rattle.chaos_dist.specs.Homes.{natural}
 use Rattle.fd_program.specs.declared.array.ArrayFacts.{ArrayFacts}

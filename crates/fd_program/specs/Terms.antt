@@ -1,6 +1,7 @@
 -- The scalar names of a loop's expressions.
 use Rattle.std.specs.Prelude.{List, All}
-use Rattle.fd_program.specs.declared.scalar.CheckedScalar.{CheckedScalar, Number, Variable, Negate', Binary', more_of-CheckedScalar, end_of-CheckedScalar}
+use Rattle.fd_program.specs.declared.scalar.CheckedScalar.{CheckedScalar, Number, Variable, Negate', Binary', more_of-CheckedScalar}
+use Rattle.fd_program.specs.declared.scalar.CheckedScalar.{end_of-CheckedScalar}
 use Rattle.fd_program.specs.declared.site.Site.{Site}
 
 -- a constant, or the variable of a DO

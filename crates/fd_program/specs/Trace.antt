@@ -1,5 +1,6 @@
 -- The executed statements of a program, in order.
-use Rattle.std.specs.Prelude.{ℕ, zero, suc, ◌-◌, ℤ, pos, if◌then◌else◌, List, [], ◌∷◌, ◌++◌, length, map, flat_map, slice_get, unwrap_or, int_lt, Bool}
+use Rattle.std.specs.Prelude.{ℕ, zero, suc, ◌-◌, ℤ, pos, if◌then◌else◌, List, [], ◌∷◌, ◌++◌, length, map, flat_map, slice_get, unwrap_or}
+use Rattle.std.specs.Prelude.{int_lt, Bool}
 use Rattle.fd_words.specs.declared.source.SourcePlace.{SourcePlace}
 use Rattle.fd_program.specs.Loops.{range_of}
 use Rattle.fd_program.specs.Scalars.{scalar_value, add_of}

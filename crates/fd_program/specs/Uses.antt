@@ -1,8 +1,9 @@
 -- The references of one execution of a FORALL at an iteration: the exact subscript of each, where it has one.
-use Rattle.std.specs.Prelude.{ℕ, suc, zero, ◌+◌, ℤ, pos, ◌+ℤ◌, Bool, true, false, ◌&&◌, if◌then◌else◌, List, [], ◌∷◌, Option, Some, None, is_some, slice_get, unwrap_or, drop, filter_map}
+use Rattle.std.specs.Prelude.{ℕ, suc, zero, ◌+◌, ℤ, pos, ◌+ℤ◌, Bool, true, false, ◌&&◌, if◌then◌else◌, List, [], ◌∷◌, Option, Some, None}
+use Rattle.std.specs.Prelude.{is_some, slice_get, unwrap_or, drop, filter_map}
 use Rattle.std.specs.Option.{option_map}
-use Rattle.fd_words.specs.declared.place.Role.{Role}
-use Rattle.fd_words.specs.declared.place.Role.TheVariants.{Index, Read, Target}
+use Rattle.fd_words.specs.Roles.{is_index}
+use Rattle.fd_words.specs.declared.place.Role.TheVariants.{Read}
 use Rattle.fd_program.specs.Stores.{number_at, is_within, element}
 use Rattle.fd_program.specs.declared.array.ArrayFacts.{ArrayFacts}
 use Rattle.fd_program.specs.declared.loop_use.Use.{Use}
@@ -11,21 +12,6 @@ use Rattle.fd_program.specs.declared.reference.CheckedSubscript.TheVariants.{Pla
 use Rattle.fd_program.specs.declared.reference.Reference.{Reference}
 use Rattle.fd_program.specs.declared.site.Site.{Site}
 use Rattle.fd_program.specs.declared.trace.LoopTurn.{LoopTurn}
-
-abbrev pub is_index : Role → Bool
-is_index Index = true
-is_index Read = false
-is_index Target = false
-
-abbrev pub is_read : Role → Bool
-is_read Index = false
-is_read Read = true
-is_read Target = false
-
-abbrev pub is_target : Role → Bool
-is_target Index = false
-is_target Read = false
-is_target Target = true
 
 -- the subscript at iteration i: its form, the number that it adds, and the element that the index reference directly before
 -- it reads; without that element a subscript through an index array has no value

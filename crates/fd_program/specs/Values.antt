@@ -3,8 +3,8 @@ use denote.Hole.Carrier.{hidden}
 use Rattle.fd_program.specs.declared.body.CheckedExpr.TheBlock.{shape-the_row-CheckedExpr-0, hidden-the_row-CheckedExpr-0}
 use Rattle.std.specs.Prelude.{◌≡◌, refl, ℕ, ℤ, neg_ℤ, List}
 use Rattle.fd_words.specs.Value.{wrapped}
-use Rattle.fd_syntax.specs.declared.scalar.Arith.{Arith}
-use Rattle.fd_program.specs.Scalars.{exactly}
+use Rattle.fd_words.specs.declared.arith.Arith.{Arith}
+use Rattle.fd_words.specs.Operators.{exactly}
 use Rattle.fd_program.specs.Stores.{number_at}
 use Rattle.fd_program.specs.Uses.{read_of, use_at}
 use Rattle.fd_program.specs.declared.body.CheckedExpr.{CheckedExpr}
@@ -17,8 +17,10 @@ value_of read terms i (expr.Number value) = value
 value_of read terms i expr.Index = i
 value_of read terms i (expr.Term place) = number_at terms place
 value_of read terms i (expr.Read number) = read number
-value_of read terms i (expr.Negate' s (expr.more_of-CheckedExpr inner expr.end_of-CheckedExpr)) = wrapped (neg_ℤ (value_of read terms i inner))
-value_of read terms i (expr.Binary' op s (expr.more_of-CheckedExpr left expr.end_of-CheckedExpr) t (expr.more_of-CheckedExpr right expr.end_of-CheckedExpr)) =
+value_of read terms i (expr.Negate' s (expr.more_of-CheckedExpr inner expr.end_of-CheckedExpr)) =
+    wrapped (neg_ℤ (value_of read terms i inner))
+value_of read terms i (expr.Binary' op s (expr.more_of-CheckedExpr left expr.end_of-CheckedExpr) t
+    (expr.more_of-CheckedExpr right expr.end_of-CheckedExpr)) =
     wrapped (exactly op (value_of read terms i left) (value_of read terms i right))
 
 -- what a reference reads in a store

@@ -19,7 +19,8 @@ first_some (Some x ∷ os) = Some x
 -- the first vote in the order of the nodes is the offence of the loop
 abbrev pub VotesTell : Type 0
 VotesTell =
-    (f : LoopFacts) (store : List (List ℤ)) → 1 ≤ f.nodes → first_some (map (vote_of f store) (below f.nodes)) ≡ offence_of f.arrays f.site f.turn store
+    (f : LoopFacts) (store : List (List ℤ)) → 1 ≤ f.nodes → first_some (map (vote_of f store) (below f.nodes))
+    ≡ offence_of f.arrays f.site f.turn store
 
 -- the iterations of a home, from each node those that it inspects, are the home's in order
 abbrev pub ExecutedInOrder : Type 0
@@ -27,7 +28,8 @@ ExecutedInOrder =
     (f : LoopFacts) (owners : List (List ℕ)) (store : List (List ℤ)) (node : ℕ) → 1 ≤ f.nodes
     → flat_map (λ q. filter (λ i. home_of f owners store i == node) (inspected_by f q)) (below f.nodes) ≡ executed_by f owners store node
 
-first_joined : {A : Type 0} (xs ys : List A) (os : List (Option A)) → first_of ys ≡ first_some os → first_of (xs ++ ys) ≡ first_some (first_of xs ∷ os)
+first_joined : {A : Type 0} (xs ys : List A) (os : List (Option A)) → first_of ys ≡ first_some os
+    → first_of (xs ++ ys) ≡ first_some (first_of xs ∷ os)
 first_joined [] ys os e = e
 first_joined (x ∷ xs) ys os e = refl
 
@@ -40,11 +42,13 @@ flat_map_append f [] ys = refl
 flat_map_append f (x ∷ xs) ys = ap (λ l. f x ++ l) (flat_map_append f xs ys) ∙ sym (append_assoc (f x) (flat_map f xs) (flat_map f ys))
 
 -- a list over parts, part by part
-pub flat_map_parts : {P X A : Type 0} (f : X → List A) (g : P → List X) (ps : List P) → flat_map f (flat_map g ps) ≡ flat_map (λ p. flat_map f (g p)) ps
+pub flat_map_parts : {P X A : Type 0} (f : X → List A) (g : P → List X) (ps : List P) → flat_map f (flat_map g ps)
+    ≡ flat_map (λ p. flat_map f (g p)) ps
 flat_map_parts f g [] = refl
 flat_map_parts f g (p ∷ ps) = flat_map_append f (g p) (flat_map g ps) ∙ ap (λ l. flat_map f (g p) ++ l) (flat_map_parts f g ps)
 
-filter_map_parts : {P X A : Type 0} (h : X → Option A) (g : P → List X) (ps : List P) → filter_map h (flat_map g ps) ≡ flat_map (λ p. filter_map h (g p)) ps
+filter_map_parts : {P X A : Type 0} (h : X → Option A) (g : P → List X) (ps : List P) → filter_map h (flat_map g ps)
+    ≡ flat_map (λ p. filter_map h (g p)) ps
 filter_map_parts h g [] = refl
 filter_map_parts h g (p ∷ ps) = filter_map-append h (g p) (flat_map g ps) ∙ ap (λ l. filter_map h (g p) ++ l) (filter_map_parts h g ps)
 

@@ -1,6 +1,7 @@
 ghost use Rattle.std.specs.Prelude.{◌≡◌, ◌++◌, IfOk, OnOk};
 ghost use Rattle.fd_program.specs.Stores.{array_at};
-ghost use Rattle.fd_program.specs.Texts.{array_of, refusal_line as the_refusal_line, refusal_line_of, refused_loop, refused_range, refused_subscript};
+ghost use Rattle.fd_program.specs.Texts.{array_of, refusal_line as the_refusal_line, refusal_line_of, refused_loop, refused_range};
+ghost use Rattle.fd_program.specs.Texts.{refused_subscript};
 ghost use Rattle.fd_program.specs.Trace.{site_at};
 
 use crate::append::append_number;

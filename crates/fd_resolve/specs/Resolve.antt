@@ -2,11 +2,12 @@
 use denote.Hole.Carrier.{hidden}
 use Rattle.fd_syntax.specs.declared.scalar.Scalar.TheBlock.{shape-the_row-Scalar-0, hidden-the_row-Scalar-0}
 use Rattle.fd_program.specs.declared.scalar.CheckedScalar.TheBlock.{shape-the_row-CheckedScalar-0, hidden-the_row-CheckedScalar-0}
-use Rattle.std.specs.Prelude.{◌≡◌, refl, ℕ, ℤ, pos, Bool, not, ◌||◌, List, [], ◌∷◌, ◌++◌, map, flat_map, Option, Some, None, is_some, unwrap_or, position}
+use Rattle.std.specs.Prelude.{◌≡◌, refl, ℕ, ℤ, pos, Bool, not, ◌||◌, List, [], ◌∷◌, ◌++◌, map, flat_map, Option, Some, None, is_some}
+use Rattle.std.specs.Prelude.{unwrap_or, position}
 use Rattle.fd_words.specs.declared.source.SourcePlace.{SourcePlace}
 use Rattle.fd_words.specs.declared.source.SourceCause.TheVariants as cause
 use Rattle.fd_words.specs.declared.source.SourceFault.{SourceFault}
-use Rattle.fd_syntax.specs.declared.scalar.Arith.{Arith}
+use Rattle.fd_words.specs.declared.arith.Arith.{Arith}
 use Rattle.fd_syntax.specs.declared.scalar.Scalar.{Scalar, Number, Named, Negate', Binary', more_of-Scalar, end_of-Scalar}
 use Rattle.fd_syntax.specs.declared.scalar.Scalar as scalar
 use Rattle.fd_syntax.specs.declared.scalar.Term.{Term}

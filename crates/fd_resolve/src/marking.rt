@@ -1,6 +1,7 @@
 ghost use Rattle.std.specs.Prelude.{◌≡◌, ◌++◌, ◌∷◌, [], OnOk, IfOk};
 ghost use Rattle.fd_scope.specs.Scalars.{constant_value};
-ghost use Rattle.fd_resolve.specs.Resolve.{depth_of, constant_of, name_mark, array_mark, scalar_marks, term_marks, offset_marks, subscript_marks};
+ghost use Rattle.fd_resolve.specs.Resolve.{depth_of, constant_of, name_mark, array_mark, scalar_marks, term_marks, offset_marks};
+ghost use Rattle.fd_resolve.specs.Resolve.{subscript_marks};
 
 use crate::names::{array_named, constant_named, depth};
 use crate::{Around, Mark, Marks};
@@ -41,7 +42,8 @@ fn mark_of_array(number: Option<u32>, name: Name) -> Mark
 }
 
 fn mark_name(marks: &mut Marks, head: &Head, around: &Around, name: Name) -> Result<(), Memory>
-    ensures { OnOk result (marks.new ≡ marks.old ++ name_mark (depth_of around.now name) (constant_value (constant_of head.now around.now name)) name ∷ []) }
+    ensures { OnOk result (marks.new ≡ marks.old ++ name_mark (depth_of around.now name)
+        (constant_value (constant_of head.now around.now name)) name ∷ []) }
 {
     let depth = depth(around, name)?;
     let value = value_known(constant_named(head, around, name));

@@ -1,5 +1,4 @@
-use fd_syntax::Arith;
-use fd_words::Name;
+use fd_words::{Arith, Name};
 use sqlite_items::Items;
 
 /// A part of a subscript without its places. `Unknown` is a name that has no meaning there.

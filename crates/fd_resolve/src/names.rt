@@ -1,6 +1,7 @@
 ghost use Rattle.std.specs.Prelude.{◌≡◌, ◌++◌, position, OnOk, IfOk};
 ghost use Rattle.fd_scope.specs.Names.{name_eq};
-ghost use Rattle.fd_resolve.specs.Resolve.{depth_of, constant_of, array_of, array_or_first, is_scalar, scalar_unknown, array_unknown, name_resolved, named};
+ghost use Rattle.fd_resolve.specs.Resolve.{depth_of, constant_of, array_of, array_or_first, is_scalar, scalar_unknown, array_unknown};
+ghost use Rattle.fd_resolve.specs.Resolve.{name_resolved, named};
 
 use crate::Around;
 use fd_program::CheckedScalar;

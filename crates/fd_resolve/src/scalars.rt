@@ -5,42 +5,9 @@ use crate::Around;
 use crate::names::{note_name, resolve_name};
 use fd_program::CheckedScalar;
 use fd_scope::{Faults, Head};
-use fd_syntax::{Arith, Scalar};
-use fd_words::{Memory, SourcePlace};
-use sqlite_items::Boxed;
+use fd_syntax::Scalar;
+use fd_words::Memory;
 use std::alloc::Global;
-
-fn negate(alloc: Global, at: SourcePlace, inner: CheckedScalar) -> Result<CheckedScalar, Memory>
-    ensures { IfOk result (λ s. s ≡ CheckedScalar.Negate at inner) }
-{
-    match Boxed::new(alloc, inner) {
-        Ok(inner) => Ok(CheckedScalar::Negate { at, inner }),
-        Err(_) => Err(Memory),
-    }
-}
-
-fn join(
-    alloc: Global,
-    op: Arith,
-    at: SourcePlace,
-    left: CheckedScalar,
-    right: CheckedScalar,
-) -> Result<CheckedScalar, Memory>
-    ensures { IfOk result (λ s. s ≡ CheckedScalar.Binary op at left right) }
-{
-    match Boxed::new(alloc, left) {
-        Ok(left) => match Boxed::new(alloc, right) {
-            Ok(right) => Ok(CheckedScalar::Binary {
-                op,
-                at,
-                left,
-                right,
-            }),
-            Err(_) => Err(Memory),
-        },
-        Err(_) => Err(Memory),
-    }
-}
 
 /// A scalar of a statement, with its names resolved.
 pub fn resolve(
@@ -59,7 +26,7 @@ pub fn resolve(
         Scalar::Named { name, at } => resolve_name(head, around, *name, *at),
         Scalar::Negate { at, inner } => {
             let inner = resolve(alloc, head, around, inner.get())?;
-            negate(alloc, *at, inner)
+            CheckedScalar::negate(alloc, *at, inner)
         }
         Scalar::Binary {
             op,
@@ -69,7 +36,7 @@ pub fn resolve(
         } => {
             let left = resolve(alloc, head, around, left.get())?;
             let right = resolve(alloc, head, around, right.get())?;
-            join(alloc, *op, *at, left, right)
+            CheckedScalar::join(alloc, *op, *at, left, right)
         }
     }
 }

@@ -8,7 +8,8 @@ use Rattle.fd_scope.specs.Faults.{is_before_by, is_before, row_of, lesser, IsFir
 irreflexive : (a b c : ℕ) → is_before_by a b c a b c ≡ false
 irreflexive a b c = grind (arith, nat_tests)
 
-not_before : (a b c d e f x y z : ℕ) → is_before_by d e f a b c ≡ false → is_before_by x y z d e f ≡ false → is_before_by x y z a b c ≡ false
+not_before : (a b c d e f x y z : ℕ) → is_before_by d e f a b c ≡ false → is_before_by x y z d e f ≡ false
+    → is_before_by x y z a b c ≡ false
 not_before a b c d e f x y z h k = grind (arith, nat_tests)
 
 asymmetric : (a b c d e f : ℕ) → is_before_by a b c d e f ≡ true → is_before_by d e f a b c ≡ false
@@ -27,7 +28,11 @@ by f g gs true e ih = taken (fold lesser (Some g) gs) (ih g)
     taken None h = cc
     taken (Some r) h = record {
       among = inr h.among;
-      least = (not_before_fault r g f h.least.0 (asymmetric g.at.line g.at.column (row_of g.cause) f.at.line f.at.column (row_of f.cause) e), h.least);
+      least = (
+        not_before_fault r g f h.least.0 (asymmetric g.at.line g.at.column (row_of g.cause) f.at.line f.at.column (row_of f.cause)
+            e),
+        h.least,
+      );
     }
 by f g gs false e ih = kept (fold lesser (Some f) gs) (ih f)
   where

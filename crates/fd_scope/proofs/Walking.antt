@@ -13,7 +13,8 @@ pub fold_step : {S A : Type 0} (after : S → A → S) (s next all : S) (xs : Li
 fold_step after s next all xs i x within is step before =
     ap (λ z. fold after z (drop (i + 1) xs)) step ∙ sym (ap (fold after s) (split xs i x within is)) ∙ before
 
-pub along_step : {S A : Type 0} (after : S → A → S) (faults : S → A → List SourceFault) (s next : S) (old new all : List SourceFault) (xs : List A) (i : ℕ) (x : A)
+pub along_step : {S A : Type 0} (after : S → A → S) (faults : S → A → List SourceFault) (s next : S) (old new all : List SourceFault)
+    (xs : List A) (i : ℕ) (x : A)
     → i < length xs → x ≡ get_or xs i x → next ≡ after s x → new ≡ old ++ faults s x
     → old ++ along after faults s (drop i xs) ≡ all → new ++ along after faults next (drop (i + 1) xs) ≡ all
 along_step after faults s next old new all xs i x within is step noted before =

@@ -1,7 +1,12 @@
 -- Faults, by place and by row of the table of faults.
-use Rattle.std.specs.Prelude.{◌⊎◌, ◌≡◌, ℕ, Bool, true, false, nat_lt, nat_eq, ◌||◌, ◌&&◌, if◌then◌else◌, Option, Some, None, List, [], ◌∷◌, ◌++◌}
+use Rattle.std.specs.Prelude.{◌⊎◌, ◌≡◌, ℕ, Bool, true, false, nat_lt, nat_eq, ◌||◌, ◌&&◌, if◌then◌else◌, Option, Some, None, List, [], ◌∷◌}
+use Rattle.std.specs.Prelude.{◌++◌}
 use Rattle.fd_words.specs.declared.source.SourceCause.{SourceCause}
-use Rattle.fd_words.specs.declared.source.SourceCause.TheVariants.{BadByte, NumberTooLarge, NameTooLong, NoEnd, Unexpected, TooDeep, TooManyNames, Unknown, NotIndex, Twice, ScalarTooLarge, BadExtent, AlignOutside, MapLength, AssignThroughIndex, TwoAssigns, AssignAndReduce, TwoOperators, TooManyReferences, TooManyStamps, TooManyLoops, TraceTooLong, LoopTooLarge, TextTooLong}
+use Rattle.fd_words.specs.declared.source.SourceCause.TheVariants.{BadByte, NumberTooLarge, NameTooLong, NoEnd, Unexpected, TooDeep}
+use Rattle.fd_words.specs.declared.source.SourceCause.TheVariants.{TooManyNames, Unknown, NotIndex, Twice, ScalarTooLarge, BadExtent}
+use Rattle.fd_words.specs.declared.source.SourceCause.TheVariants.{AlignOutside, MapLength, AssignThroughIndex, TwoAssigns, AssignAndReduce}
+use Rattle.fd_words.specs.declared.source.SourceCause.TheVariants.{TwoOperators, TooManyReferences, TooManyStamps, TooManyLoops}
+use Rattle.fd_words.specs.declared.source.SourceCause.TheVariants.{TraceTooLong, LoopTooLarge, TextTooLong}
 use Rattle.fd_words.specs.declared.source.SourceFault.{SourceFault}
 use Rattle.fd_words.specs.declared.source.SourcePlace.{SourcePlace}
 

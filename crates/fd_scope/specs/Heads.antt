@@ -41,7 +41,10 @@ facts_of e decomposition offset = record { name = e.name; extent = unwrap_or e.e
 -- an array that isn't aligned has a decomposition of its own, behind those that there are
 abbrev pub entered : Tables → ArrayEntry → Option Alignment → Tables
 entered t e None = record { arrays = t.arrays ++ facts_of e (length t.layouts) (pos 0) ∷ []; layouts = t.layouts ++ own_layout e ∷ [] }
-entered t e (Some to) = record { arrays = t.arrays ++ facts_of e (unwrap_or to.decomposition 0) (unwrap_or to.offset (pos 0)) ∷ []; layouts = t.layouts }
+entered t e (Some to) = record {
+  arrays = t.arrays ++ facts_of e (unwrap_or to.decomposition 0) (unwrap_or to.offset (pos 0)) ∷ [];
+  layouts = t.layouts;
+}
 
 abbrev pub after_entry : Tables → ArrayEntry → Tables
 after_entry t e = entered t e e.aligned

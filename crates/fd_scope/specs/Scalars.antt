@@ -4,11 +4,12 @@ use Rattle.fd_syntax.specs.declared.scalar.Scalar.TheBlock.{shape-the_row-Scalar
 use Rattle.fd_syntax.specs.declared.scalar.Scalar as scalar
 use Rattle.fd_words.specs.declared.source.SourceCause.{SourceCause}
 use Rattle.std.specs.List.{list_any}
-use Rattle.std.specs.Prelude.{◌≡◌, refl, ℕ, ℤ, pos, ◌++◌, Bool, not, ◌||◌, List, [], ◌∷◌, Option, Some, None, neg_ℤ, int_lt, is_some, if◌then◌else◌}
+use Rattle.std.specs.Prelude.{◌≡◌, refl, ℕ, ℤ, pos, ◌++◌, Bool, not, ◌||◌, List, [], ◌∷◌, Option, Some, None, neg_ℤ, int_lt, is_some}
+use Rattle.std.specs.Prelude.{if◌then◌else◌}
 use Rattle.std.specs.Option.{option_map}
-use Rattle.fd_program.specs.Scalars.{exactly, sign_of}
+use Rattle.fd_words.specs.Operators.{exactly, sign_of}
 use Rattle.fd_words.specs.declared.source.SourcePlace.{SourcePlace}
-use Rattle.fd_syntax.specs.declared.scalar.Arith.{Arith}
+use Rattle.fd_words.specs.declared.arith.Arith.{Arith}
 use Rattle.fd_words.specs.declared.source.SourceCause.TheVariants as cause
 use Rattle.fd_words.specs.declared.source.SourceFault.{SourceFault}
 use Rattle.fd_scope.specs.declared.names.Known.{Known}
@@ -72,7 +73,8 @@ scalar_faults names here loops (Number value at) = large_faults at (Some value)
 scalar_faults names here loops (Named name at) = name_faults loops (as_constant (known names here name)) name at
 scalar_faults names here loops (Negate' at s (more_of-Scalar inner end_of-Scalar)) = scalar_faults names here loops inner
 scalar_faults names here loops (Binary' op at s (more_of-Scalar left end_of-Scalar) t (more_of-Scalar right end_of-Scalar)) =
-    scalar_faults names here loops left ++ (scalar_faults names here loops right ++ large_faults at (both op (value_of names here left) (value_of names here right)))
+    scalar_faults names here loops left ++ (scalar_faults names here loops right ++ large_faults at
+    (both op (value_of names here left) (value_of names here right)))
 
 -- ---- the same, at the variants as code writes them
 
@@ -91,9 +93,11 @@ pub scalar_faults-Negate : (names : List (List ℕ × Known)) (here : SourcePlac
 unfolding shape-the_row-Scalar-0 hidden-the_row-Scalar-0 hidden
 scalar_faults-Negate names here loops at inner = refl
 
-pub scalar_faults-Binary : (names : List (List ℕ × Known)) (here : SourcePlace) (loops : List (List ℕ)) (op : Arith) (at : SourcePlace) (left right : Scalar)
+pub scalar_faults-Binary : (names : List (List ℕ × Known)) (here : SourcePlace) (loops : List (List ℕ)) (op : Arith) (at : SourcePlace)
+    (left right : Scalar)
     → scalar_faults names here loops (scalar.Binary op at left right)
-    ≡ scalar_faults names here loops left ++ (scalar_faults names here loops right ++ large_faults at (both op (value_of names here left) (value_of names here right)))
+    ≡ scalar_faults names here loops left ++ (scalar_faults names here loops right ++ large_faults at
+    (both op (value_of names here left) (value_of names here right)))
 unfolding shape-the_row-Scalar-0 hidden-the_row-Scalar-0 hidden
 scalar_faults-Binary names here loops op at left right = refl
 
@@ -105,9 +109,11 @@ offset_value names here total [] = total
 offset_value names here total (t ∷ ts) = offset_value names here (within (both (sign_of t.minus) total (value_of names here t.scalar))) ts
 
 abbrev pub term_faults : List (List ℕ × Known) → SourcePlace → List (List ℕ) → Option ℤ → Term → List SourceFault
-term_faults names here loops total t = scalar_faults names here loops t.scalar ++ large_faults t.at (both (sign_of t.minus) total (value_of names here t.scalar))
+term_faults names here loops total t = scalar_faults names here loops t.scalar ++ large_faults t.at
+    (both (sign_of t.minus) total (value_of names here t.scalar))
 
 abbrev pub offset_faults : List (List ℕ × Known) → SourcePlace → List (List ℕ) → Option ℤ → List Term → List SourceFault
 offset_faults names here loops total [] = []
 offset_faults names here loops total (t ∷ ts) =
-    term_faults names here loops total t ++ offset_faults names here loops (within (both (sign_of t.minus) total (value_of names here t.scalar))) ts
+    term_faults names here loops total t ++ offset_faults names here loops
+    (within (both (sign_of t.minus) total (value_of names here t.scalar))) ts

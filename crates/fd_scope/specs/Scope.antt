@@ -1,5 +1,6 @@
 -- What is declared, and the faults of declarations. A name keeps its first meaning.
-use Rattle.std.specs.Prelude.{ℕ, ℤ, pos, ◌+ℤ◌, Bool, true, false, not, ◌||◌, ◌&&◌, ◌==◌, if◌then◌else◌, List, [], ◌∷◌, ◌++◌, length, slice_get, slice_set, Option, Some, None, is_some, int_lt, int_le, nat_le, fold}
+use Rattle.std.specs.Prelude.{ℕ, ℤ, pos, ◌+ℤ◌, Bool, true, false, not, ◌||◌, ◌&&◌, ◌==◌, if◌then◌else◌, List, [], ◌∷◌, ◌++◌, length}
+use Rattle.std.specs.Prelude.{slice_get, slice_set, Option, Some, None, is_some, int_lt, int_le, nat_le, fold}
 use Rattle.std.specs.List.{list_any}
 use Rattle.std.specs.Ordering.{int_eq}
 use Rattle.chaos_dist.specs.Homes.{natural}
@@ -188,7 +189,8 @@ reads_with reads (Some number) = if is_read reads (Some number) then reads else 
 
 abbrev pub outputs_with : List OutputName → Option ℕ → SourcePlace → List OutputName
 outputs_with outputs None at = outputs
-outputs_with outputs (Some number) at = if is_output outputs (Some number) then outputs else outputs ++ record { array = number; at = at } ∷ []
+outputs_with outputs (Some number) at = if is_output outputs (Some number) then outputs else outputs ++ record { array = number; at = at }
+    ∷ []
 
 abbrev pub after_read : Scope → Listed → Scope
 after_read scope l = record scope { reads = reads_with scope.reads (number_of scope l) }
@@ -202,7 +204,8 @@ abbrev pub after_declaration : Scope → Declaration → Scope
 after_declaration scope (declaration.Parameter list) = fold after_parameter scope list
 after_declaration scope (declaration.Integer list) = fold after_array scope list
 after_declaration scope (declaration.Decomposition list) = fold after_layout scope list
-after_declaration scope (declaration.Align arrays dummy target target_at add) = fold (after_aligned (alignment_of scope target target_at add)) scope arrays
+after_declaration scope (declaration.Align arrays dummy target target_at add) =
+    fold (after_aligned (alignment_of scope target target_at add)) scope arrays
 after_declaration scope (declaration.Read list) = fold after_read scope list
 after_declaration scope (declaration.Output list) = fold after_output scope list
 
@@ -213,7 +216,8 @@ declaration_faults loops scope (declaration.Decomposition list) = along after_la
 declaration_faults loops scope (declaration.Align arrays dummy target target_at add) =
     target_faults scope target target_at
     ++ (offset_faults scope.names target_at loops (Some (pos 0)) add
-    ++ along (after_aligned (alignment_of scope target target_at add)) (listed_faults (alignment_of scope target target_at add)) scope arrays)
+    ++ along (after_aligned (alignment_of scope target target_at add)) (listed_faults (alignment_of scope target target_at add)) scope
+    arrays)
 declaration_faults loops scope (declaration.Read list) = along after_read read_faults scope list
 declaration_faults loops scope (declaration.Output list) = along after_output output_faults scope list
 

@@ -4,7 +4,12 @@ ghost use Rattle.fd_program.specs.declared.array.OutputName.{OutputName};
 ghost use Rattle.fd_scope.specs.Faults.{along};
 ghost use Rattle.fd_scope.specs.Names.{as_array, as_decomposition};
 ghost use Rattle.fd_scope.specs.Scalars.{value_of, offset_faults};
-ghost use Rattle.fd_scope.specs.Scope.{is_declared, is_extent, extent_within, bad_extent, extent_of, extent_faults, after_parameter, parameter_faults, after_array, array_faults, after_layout, layout_faults, sized_faults, is_outside, layout_extent, array_named, aligned_faults, listed_faults, after_aligned, alignment_of, target_faults, after_declaration, declaration_faults, declared, declared_faults, nothing, arrays_aligned, is_read, is_output, again_faults, reads_with, outputs_with, after_read, read_faults, after_output, output_faults};
+ghost use Rattle.fd_scope.specs.Scope.{is_declared, is_extent, extent_within, bad_extent, extent_of, extent_faults, after_parameter};
+ghost use Rattle.fd_scope.specs.Scope.{parameter_faults, after_array, array_faults, after_layout, layout_faults, sized_faults, is_outside};
+ghost use Rattle.fd_scope.specs.Scope.{layout_extent, array_named, aligned_faults, listed_faults, after_aligned, alignment_of};
+ghost use Rattle.fd_scope.specs.Scope.{target_faults, after_declaration, declaration_faults, declared, declared_faults, nothing};
+ghost use Rattle.fd_scope.specs.Scope.{arrays_aligned, is_read, is_output, again_faults, reads_with, outputs_with, after_read, read_faults};
+ghost use Rattle.fd_scope.specs.Scope.{after_output, output_faults};
 
 use crate::scalars::{declared_offset, declared_value};
 use crate::{
@@ -381,7 +386,8 @@ fn alignment(
     add: &[Term],
 ) -> Result<Alignment, Memory>
     ensures value { IfOk result (λ a. a ≡ alignment_of scope.now target target_at add.now) }
-    ensures noted { OnOk result (faults.new ≡ faults.old ++ (target_faults scope.now target target_at ++ offset_faults scope.now.names target_at loops.now (Some (pos 0)) add.now)) }
+    ensures noted { OnOk result (faults.new ≡ faults.old ++ (target_faults scope.now target target_at ++ offset_faults scope.now.names
+        target_at loops.now (Some (pos 0)) add.now)) }
 {
     let decomposition = decomposition_number(scope.names.find(target));
     faults.note_if(

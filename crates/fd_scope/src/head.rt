@@ -1,5 +1,6 @@
 ghost use Rattle.std.specs.Prelude.{◌≡◌, ◌++◌, ◌∷◌, [], map, OnOk, IfOk};
-ghost use Rattle.fd_scope.specs.Heads.{with_loop_of, loop_names, layout_of, own_layout, facts_of, entered, after_entry, tables_of, head_of, head_faults};
+ghost use Rattle.fd_scope.specs.Heads.{with_loop_of, loop_names, layout_of, own_layout, facts_of, entered, after_entry, tables_of, head_of};
+ghost use Rattle.fd_scope.specs.Heads.{head_faults};
 
 use crate::declarations::enter_all;
 use crate::{Alignment, ArrayEntry, Faults, LayoutEntry, LoopNames, Scope, Tables};

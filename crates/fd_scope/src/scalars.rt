@@ -1,12 +1,13 @@
-ghost use Rattle.std.specs.Prelude.{◌≡◌, ◌++◌, ◌≤ℤ◌, ◌+ℤ◌, ◌-ℤ◌, ◌*ℤ◌, pos, neg_ℤ, OnOk, IfOk, Some, not, is_some};
-ghost use Rattle.fd_program.specs.Scalars.{exactly, sign_of};
+ghost use Rattle.std.specs.Prelude.{◌≡◌, ◌++◌, pos, neg_ℤ, OnOk, IfOk, Some, not, is_some};
+ghost use Rattle.fd_words.specs.Operators.{sign_of};
 ghost use Rattle.fd_scope.specs.Names.{known, as_constant};
 ghost use Rattle.std.specs.Option.{option_map};
-ghost use Rattle.fd_scope.specs.Scalars.{is_large, both, sized, within, large_faults, name_faults, no_scalar, value_of, constant_value, scalar_faults, term_faults, offset_value, offset_faults};
+ghost use Rattle.fd_scope.specs.Scalars.{is_large, both, sized, within, large_faults, name_faults, no_scalar, value_of, constant_value};
+ghost use Rattle.fd_scope.specs.Scalars.{scalar_faults, term_faults, offset_value, offset_faults};
 
 use crate::{Faults, Known, LoopNames, Meaning, Names};
-use fd_syntax::{Arith, Scalar, Term};
-use fd_words::{Memory, Name, SourceCause, SourcePlace};
+use fd_syntax::{Scalar, Term};
+use fd_words::{Arith, Memory, Name, SourceCause, SourcePlace};
 
 /// The greatest size of a scalar value.
 const MOST: i128 = 1_099_511_627_776;
@@ -35,36 +36,8 @@ fn negate(value: Option<i64>) -> Option<i64>
     ensures { result ≡ within (option_map neg_ℤ value) }
 {
     match value {
-        Some(value) => sized_value(difference(0, value)),
+        Some(value) => sized_value(Arith::Minus.exact(0, value)),
         None => None,
-    }
-}
-
-fn product(a: i64, b: i64) -> i128
-    ensures { result ≡ a *ℤ b }
-{
-    i128::from(a) * i128::from(b)
-}
-
-fn sum(a: i64, b: i64) -> i128
-    ensures { result ≡ a +ℤ b }
-{
-    i128::from(a) + i128::from(b)
-}
-
-fn difference(a: i64, b: i64) -> i128
-    ensures { result ≡ a -ℤ b }
-{
-    i128::from(a) - i128::from(b)
-}
-
-fn exact(op: Arith, a: i64, b: i64) -> i128
-    ensures { result ≡ exactly op a b }
-{
-    match op {
-        Arith::Plus => sum(a, b),
-        Arith::Minus => difference(a, b),
-        Arith::Times => product(a, b),
     }
 }
 
@@ -72,7 +45,7 @@ fn operate(op: Arith, left: Option<i64>, right: Option<i64>) -> Option<i128>
     ensures { result ≡ both op left right }
 {
     match (left, right) {
-        (Some(left), Some(right)) => Some(exact(op, left, right)),
+        (Some(left), Some(right)) => Some(op.exact(left, right)),
         _ => None,
     }
 }
@@ -171,12 +144,6 @@ pub fn declared_value(
     }
 }
 
-fn sign(minus: bool) -> Arith
-    ensures { result ≡ sign_of minus }
-{
-    if minus { Arith::Minus } else { Arith::Plus }
-}
-
 fn add_term(
     names: &Names,
     here: SourcePlace,
@@ -189,7 +156,11 @@ fn add_term(
     ensures noted { OnOk result (faults.new ≡ faults.old ++ term_faults names.now here loops.now total term.now) }
 {
     let value = declared_value(names, here, loops, faults, &term.scalar)?;
-    settle(faults, term.at, operate(sign(term.minus), total, value))
+    settle(
+        faults,
+        term.at,
+        operate(Arith::of_sign(term.minus), total, value),
+    )
 }
 
 /// The value of an offset of a declaration, if it has one.

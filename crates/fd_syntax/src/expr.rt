@@ -1,5 +1,5 @@
-use crate::{Arith, Scalar, Terms};
-use fd_words::{Name, SourcePlace};
+use crate::{Scalar, Terms};
+use fd_words::{Arith, Name, SourcePlace};
 use sqlite_items::Boxed;
 
 /// The subscript of an element: the index of the FORALL and an offset, an index array's element and an

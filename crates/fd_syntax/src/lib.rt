@@ -12,5 +12,5 @@ pub use declaration::{
 };
 pub use expr::{Element, Expr, Subscript};
 pub use program::{DeclarationList, Program};
-pub use scalar::{Arith, Scalar, Term, Terms};
+pub use scalar::{Scalar, Term, Terms};
 pub use statement::{BodyList, BodyStatement, Form, Loop, Statement, StatementList};

@@ -1,13 +1,5 @@
-use fd_words::{Name, SourcePlace};
+use fd_words::{Arith, Name, SourcePlace};
 use sqlite_items::{Boxed, Items};
-
-/// An operator of scalars and expressions.
-#[derive(Clone, Copy, Debug, PartialEq, Eq)]
-pub enum Arith {
-    Plus,
-    Minus,
-    Times,
-}
 
 /// A scalar expression: numbers and names, without arrays. An operator has the place of its sign.
 #[derive(Debug, Drop)]

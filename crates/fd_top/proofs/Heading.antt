@@ -4,47 +4,23 @@ use Rattle.std.specs.Prelude.{ℤ, Option, Some, None, IsSomeAnd}
 use Rattle.bsp_core.proofs.Places.{le_or_more}
 use Rattle.bsp_mail.specs.declared.mail.Mail.{Mail}
 use Rattle.bsp_mail.specs.declared.seat.MailSeat.{MailSeat}
-use Rattle.bsp_mail.specs.Mails.{IsPair, sent_on, taken_on, ArePrefixes}
-use Rattle.bsp_mail.specs.Rule.{IsPrefix}
-use Rattle.bsp_threads.specs.Alls.{AreEmptyFrom}
-use Rattle.chaos_due.specs.Carried.{stands, executions, carried}
-use Rattle.chaos_due.specs.DataLetters.{CarriesNothing, gathers_stand, scatters_stand, others_carry_nothing, loops_are_carried}
-use Rattle.chaos_due.specs.InspectionLetters.{votes_stand, vote_stands_where, inspection_letters_stand, others_ask_nothing}
+use Rattle.bsp_mail.specs.Mails.{IsPair, sent_on, taken_on}
+use Rattle.plan_letters.specs.Carried.{stands, executions, carried}
+use Rattle.plan_letters.specs.DataLetters.{CarriesNothing, gathers_stand, scatters_stand, others_carry_nothing, loops_are_carried}
+use Rattle.plan_letters.specs.InspectionLetters.{votes_stand, vote_stands_where, inspection_letters_stand, others_ask_nothing}
 use Rattle.chaos_letter.specs.declared.kind.Kind.TheVariants as kind
-use Rattle.chaos_run.specs.Phases.{due_list}
 use Rattle.fd_command.specs.Asked.{Asked}
 use Rattle.fd_command.specs.declared.request.Manner.{Manner}
 use Rattle.fd_front.specs.declared.source.Source.{Source}
 use Rattle.fd_outside.specs.Causes.{appended}
 use Rattle.fd_program.specs.Checks.{IsChecked}
 use Rattle.fd_program.specs.declared.loop_facts.HomeRule.{HomeRule}
-use Rattle.fd_top.specs.Outcomes.{Reading, Outcome, rule_of}
-use Rattle.fd_top.specs.Answers.{Left, letters_after, RanRight}
-use Rattle.fd_top.specs.Threads.{due_for, HasLetters, HasSome, RunsOnThreads}
+use Rattle.fd_edge.specs.Endings.{Outcome, Left, letters_after, IsWhole}
+use Rattle.fd_edge.specs.Readings.{Reading}
+use Rattle.fd_top.specs.Outcomes.{rule_of}
+use Rattle.fd_top.specs.Answers.{RanRight}
+use Rattle.fd_top.specs.Threads.{due_for, HasLetters, RunsOnThreads}
 use Rattle.fd_top.specs.Headline.{InspectionsStand, DataIsCarried, NothingIsLeft, IsRight, Headline}
-
--- ---- the letters of a run by a rule that is that of the manner
-
-pub letters_stand : (m : Manner) (s : Source) (store : List (List ℤ)) (rule : HomeRule) (mail : Mail) → rule ≡ rule_of m.iterations
-    → ((p q : ℕ) → p < m.nodes → q < m.nodes → p ≢ q
-    → (sent_on mail.seats.items p q ≡ due_list s.checked m.nodes rule store p q) × (taken_on mail.seats.items p q ≡ due_list s.checked m.nodes rule store p q))
-    → AreEmptyFrom m.nodes mail.seats.items → HasLetters m s store mail
-letters_stand m s store rule mail e lists others = record {
-  lists = λ p q lp lq apart.
-      let due = ap (λ (r : HomeRule). due_list s.checked m.nodes r store p q) e in
-      let l = lists p q lp lq apart in
-      (l.0 ∙ due, l.1 ∙ due);
-  others = others;
-}
-
-pub some_stand : (m : Manner) (s : Source) (store : List (List ℤ)) (rule : HomeRule) (mail : Mail) → rule ≡ rule_of m.iterations
-    → ((p q : ℕ) → p < m.nodes → q < m.nodes → p ≢ q → IsPrefix (sent_on mail.seats.items p q) (due_list s.checked m.nodes rule store p q))
-    → ArePrefixes mail.seats.items → AreEmptyFrom m.nodes mail.seats.items → HasSome m s store mail
-some_stand m s store rule mail e sent taken others = record {
-  sent = λ p q lp lq apart. subst (λ (r : HomeRule). IsPrefix (sent_on mail.seats.items p q) (due_list s.checked m.nodes r store p q)) e (sent p q lp lq apart);
-  taken = taken;
-  others = others;
-}
 
 -- ---- what they say
 
@@ -61,10 +37,13 @@ module _ (m : Manner) (s : Source) (store : List (List ℤ)) (mail : Mail) (know
   inspections : InspectionsStand m s store seats
   inspections = record {
     once = λ p q lp lq apart. ap (executions kind.Vote) (sent p q lp lq apart) ∙ votes_stand s.checked m.nodes rule store p q known apart;
-    votes = λ p q k lp lq apart. ap (stands kind.Vote k) (sent p q lp lq apart) ∙ vote_stands_where s.checked m.nodes rule store p q k known apart;
+    votes = λ p q k lp lq apart. ap (stands kind.Vote k) (sent p q lp lq apart)
+        ∙ vote_stands_where s.checked m.nodes rule store p q k known apart;
     inspecting = λ p q k sort lp lq apart is stand.
-        inspection_letters_stand s.checked m.nodes rule store p q k sort known apart is (sym (ap (stands sort k) (sent p q lp lq apart)) ∙ stand);
-    no_others = λ p q k sort lp lq apart is at. ap (stands sort k) (sent p q lp lq apart) ∙ others_ask_nothing s.checked m.nodes rule store p q k sort known apart is at;
+        inspection_letters_stand s.checked m.nodes rule store p q k sort known apart is (sym (ap (stands sort k) (sent p q lp lq apart))
+        ∙ stand);
+    no_others = λ p q k sort lp lq apart is at. ap (stands sort k) (sent p q lp lq apart)
+        ∙ others_ask_nothing s.checked m.nodes rule store p q k sort known apart is at;
   }
 
   data_letters : DataIsCarried m s store seats
@@ -94,21 +73,26 @@ module _ (m : Manner) (s : Source) (store : List (List ℤ)) (mail : Mail) (know
       by p q pair (inr lp) (inl far) = empty p q pair (inr far)
       by p q pair (inr lp) (inr lq) = let l = h.lists p q lp lq (λ e. pair.1.1 (sym e)) in l.1 ∙ sym l.0
 
-  pub is_right : (o : Outcome Mail) (result : ℕ) (old new : Left Mail) → RunsOnThreads m s store o → result ≡ o.status → new.written ≡ appended old.written o.bytes → new.letters ≡ mail
+  pub is_right : (o : Outcome Mail) (result : ℕ) (old new : Left Mail) → RunsOnThreads m s store o → IsWhole o result old new
+      → new.letters ≡ mail
       → IsRight m s store result old new
-  is_right o result old new runs status written is = record {
-    text = written ∙ ap (appended old.written) runs.run.bytes;
-    refusal = status ∙ runs.run.status;
+  is_right o result old new runs whole is = record {
+    text = whole.written ∙ ap (appended old.written) runs.run.bytes;
+    refusal = whole.status ∙ runs.run.status;
     inspections = subst (λ (x : Mail). InspectionsStand m s store x.seats.items) (sym is) inspections;
     data_letters = subst (λ (x : Mail). DataIsCarried m s store x.seats.items) (sym is) data_letters;
     nothing_left = subst (λ (x : Mail). NothingIsLeft m x.seats.items) (sym is) nothing_left;
   }
 
-pub headline : (request : Option Asked) (r : Reading) (result : ℕ) (old new : Left Mail) → RanRight RunsOnThreads request r result old new → Headline request r result old new
-headline request r result old new t = record { accepted = t.accepted; right = by t.outcome.letters t.run.letters t.letters }
+pub headline : (request : Option Asked) (r : Reading) (result : ℕ) (old new : Left Mail) → RanRight RunsOnThreads request r result old new
+    → Headline request r result old new
+headline request r result old new t = record { accepted = t.accepted; right = by t.outcome.letters t.run.letters t.whole.letters }
   where
-    by : (letters : Option Mail) → IsSomeAnd letters (HasLetters t.accepted.asked.manner t.accepted.source t.accepted.store) → new.letters ≡ letters_after letters old.letters
+    by : (letters : Option Mail) → IsSomeAnd letters (HasLetters t.accepted.asked.manner t.accepted.source t.accepted.store)
+        → new.letters ≡ letters_after letters old.letters
         → IsRight t.accepted.asked.manner t.accepted.source t.accepted.store result old new
     by None h is = absurd h
     by (Some mail) h is =
-        is_right t.accepted.asked.manner t.accepted.source t.accepted.store mail t.accepted.read.sound h t.outcome result old new t.run t.status t.written is
+        is_right t.accepted.asked.manner t.accepted.source t.accepted.store mail t.accepted.are.gives.read.sound h t.outcome result old
+        new t.run
+        t.whole is

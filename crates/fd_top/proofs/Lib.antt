@@ -1,5 +1,4 @@
-pub mod Ending
+pub mod Readying
+pub mod Running
 pub mod Answered
-pub mod Loaded
-pub mod Planning
 pub mod Heading

@@ -1,6 +1,6 @@
 pub mod Made
 pub mod Outcomes
-pub mod Stops
+pub mod Ready
 pub mod Answers
 pub mod Threads
 pub mod Headline

@@ -1,21 +1,21 @@
 -- What comes of a call that runs a source on threads, by a Mail.
-use Rattle.std.specs.Prelude.{ℕ, ℤ, ◌≡◌, ◌≢◌, ◌<◌, ◌⊎◌, Bool, false, not, if◌then◌else◌, List, Option, Some, None, Ok, IsSomeAnd, codes, option_and_then}
-use Rattle.fd_command.specs.Asked.{Asked, AskedOrigin, asked}
+use Rattle.std.specs.Prelude.{ℕ, ℤ, ◌≡◌, ◌≢◌, ◌<◌, ◌⊎◌, Bool, false, not, if◌then◌else◌, List, codes}
+use Rattle.std.specs.Prelude.{Option, Some, None, IsSomeAnd, option_and_then}
+use Rattle.fd_command.specs.Asked.{Asked, asked}
 use Rattle.fd_command.specs.declared.request.Manner.{Manner}
 use Rattle.fd_command.specs.declared.request.Turns.{Turns}
 use Rattle.fd_command.specs.declared.request.Turns.TheVariants.{RoundRobin, Seeded}
-use Rattle.fd_front.specs.Sources.{IsSource}
+use Rattle.fd_edge.specs.Endings.{Outcome, Left}
+use Rattle.fd_edge.specs.Readings.{Reading}
 use Rattle.fd_front.specs.declared.source.Source.{Source}
-use Rattle.fd_load.specs.Loads.{IsLoaded}
 use Rattle.bsp_mail.specs.declared.mail.Mail.{Mail}
 use Rattle.bsp_mail.specs.Mails.{sent_on, taken_on, ArePrefixes}
 use Rattle.bsp_mail.specs.Rule.{IsPrefix}
 use Rattle.bsp_threads.specs.Alls.{AreEmptyFrom}
 use Rattle.chaos_letter.specs.declared.letter.Letter.{Letter}
-use Rattle.chaos_run.specs.Phases.{due_list}
-use Rattle.fd_top.specs.declared.planned.Planned.{Planned}
-use Rattle.fd_top.specs.Outcomes.{Reading, Outcome, IsRunOf, rule_of, written_for, IsText, data_read}
-use Rattle.fd_top.specs.Answers.{letters_after}
+use Rattle.plan_run.specs.Phases.{due_list}
+use Rattle.fd_top.specs.Outcomes.{IsRunOf, rule_of, written_for, Accepted}
+use Rattle.fd_top.specs.Answers.{IsAnswered, IsCompleted}
 
 unfoldable pub run_usage_line : List ℕ
 run_usage_line = codes "usage: chaosrun (SOURCE | --mesh SEED --size N) [--nodes N] [--iterations owner|most] [--report]\n"
@@ -60,30 +60,16 @@ pub record RunsOnThreads (m : Manner) (s : Source) (store : List (List ℤ)) (o 
   pub run : IsRunOf s store (written_for m s store) o
   pub letters : IsSomeAnd o.letters (HasLetters m s store)
 
--- ---- where memory was wanting: the Mail is as it was, or has some of the letters of a run
+-- ---- where memory was wanting
 
--- of a source
-abbrev pub CutOver : Reading → Manner → Source → Mail → Mail → Type 0
-CutOver r m s old new = (new ≡ old) ⊎ ((store : List (List ℤ)) × (IsLoaded r.contents r.before r.now s.checked (Ok store) × HasSome m s store new))
-
--- of a text
-abbrev pub CutIn : Reading → Manner → List ℕ → Mail → Mail → Type 0
-CutIn r m text old new = (new ≡ old) ⊎ ((s : Source) × (IsSource text s × CutOver r m s old new))
-
--- of a file or a mesh
-abbrev pub CutFrom : Reading → Manner → AskedOrigin → Mail → Mail → Type 0
-CutFrom r m origin old new = (new ≡ old) ⊎ ((text : List ℕ) × (IsText r.contents origin text × CutIn (data_read origin r) m text old new))
-
--- of what words ask for
+-- the Mail is as it was, or has the first of the letters of a run of what words ask for
 abbrev pub IsCut : Option Asked → Reading → Mail → Mail → Type 0
-IsCut request r old new = (new ≡ old) ⊎ ((w : Asked) × ((request ≡ Some w) × CutFrom r w.manner w.origin old new))
+IsCut request r old new = (new ≡ old) ⊎ ((a : Accepted request r) × HasSome a.asked.manner a.source a.store new)
 
--- ---- what is planned
+-- ---- answers
 
--- one of these outcomes, whose letters stand in the Mail
-pub record Plans (Comes : Outcome Mail → Type 0) (plan : Planned) (old new : Mail) : Type 0 where
-  pub outcome : Outcome Mail
-  pub comes : Comes outcome
-  pub status : plan.status ≡ outcome.status
-  pub bytes : plan.text ≡ outcome.bytes
-  pub letters : new ≡ letters_after outcome.letters old
+abbrev pub RunAnswered : Option Asked → Reading → ℕ → Left Mail → Left Mail → Type 0
+RunAnswered = IsAnswered run_usage_line RunsOnThreads IsCut
+
+abbrev pub RunCompleted : Option Asked → Reading → ℕ → Left Mail → Left Mail → Type 0
+RunCompleted = IsCompleted run_usage_line RunsOnThreads IsCut

@@ -1,9 +1,9 @@
-ghost use Rattle.std.specs.Prelude.{◌≡◌, ◌+◌, ◌≤◌, length, min, drop, Some, IfOk, IfSome};
+ghost use Rattle.std.specs.Prelude.{◌≡◌, ◌+◌, ◌≤◌, length, Some, IfOk, IfSome};
 ghost use Rattle.fd_outside.specs.Causes.{GivesFrom, HasCause, NoneFell};
 ghost use Rattle.fd_top.specs.Made.{made_content, told_by};
 
 use fd_mesh::{FileData, FileList};
-use fd_outside::{Failed, Files};
+use fd_outside::{Failed, Files, copy_from};
 
 /// Files that were made and stand in memory. A name that isn't theirs is that of an empty file, so no read fails.
 #[derive(Drop)]
@@ -23,18 +23,6 @@ fn content_of<'a>(files: &'a [FileData], name: &str) -> &'a [u8]
         rest = behind;
     }
     &[]
-}
-
-/// Copies bytes from a place on into the first places of a buffer, as many as there are and fit.
-fn copy_from(held: &[u8], at: u64, into: &mut [u8]) -> usize
-    ensures count { result ≡ min (length into.old) (length (drop at held.now)) }
-    ensures gives { GivesFrom held.now at result into.new }
-{
-    let start = (at as usize).min(held.len());
-    let left = &held[start..];
-    let count = left.len().min(into.len());
-    into[..count].copy_from_slice(&left[..count]);
-    count
 }
 
 impl Files for MadeFiles {

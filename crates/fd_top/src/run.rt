@@ -1,157 +1,28 @@
-ghost use Rattle.std.specs.Prelude.{◌≡◌, ◌≤◌, ◌⊎◌, length, map, string_bytes, IfOk, Err, None, Some};
+ghost use Rattle.std.specs.Prelude.{◌≡◌, ◌≤◌, IfOk, Err, None, Some, Option, map, string_bytes};
 ghost use Rattle.bsp_mail.specs.Mails.{IsFresh};
-ghost use Rattle.fd_outside.specs.Causes.{Rose, NoneFell};
-ghost use Rattle.fd_command.specs.Asked.{file, mesh};
-ghost use Rattle.fd_command.specs.Shown.{shown, shown_origin, HasMeshInRange};
-ghost use Rattle.fd_top.specs.Outcomes.{Reading, reading, Comes, FromOrigin, ToCome};
-ghost use Rattle.fd_top.specs.Answers.{left, EndsBy, NoneFailed, IsComplete, RanRight};
-ghost use Rattle.fd_top.specs.Threads.{run_usage_line, has_no_turns, asked_to_run, RunsOnThreads, CutIn, CutFrom, IsCut};
+ghost use Rattle.fd_outside.specs.Causes.{NoneFell};
+ghost use Rattle.fd_command.specs.Asked.{Asked};
+ghost use Rattle.fd_command.specs.Shown.{HasMeshInRange, shown};
+ghost use Rattle.fd_edge.specs.Endings.{leaves};
+ghost use Rattle.fd_edge.specs.Readings.{files_read};
+ghost use Rattle.fd_top.specs.Answers.{RanRight, texts};
 ghost use Rattle.fd_top.specs.Headline.{Headline};
+ghost use Rattle.fd_top.specs.Outcomes.{IsRun};
+ghost use Rattle.fd_top.specs.Ready.{IsSound, Tells};
+ghost use Rattle.fd_top.specs.Threads.{RunAnswered, RunCompleted, RunsOnThreads, asked_to_run, has_no_turns};
 
-use crate::end::{end, end_unread};
-use crate::made::MadeFiles;
-use crate::threaded::text_threaded;
-use crate::top::{SOURCE_LIMIT, TOO_LONG};
+use crate::ready::called;
+use crate::ways::{end_run, run_on_threads};
 use bsp_mail::Mail;
-use fd_command::{Manner, Origin, Refused, Request, Turns, requested};
-use fd_mesh::mesh;
-use fd_outside::{Files, Gate, ReadStop, Sink, read_whole};
-use fd_words::Memory;
+use fd_command::{Manner, Refused, Request, Turns, requested};
+use fd_edge::end_stop;
+use fd_outside::{Files, Gate, Sink};
 use std::alloc::Global;
 use std::sync::Wait;
 use std::thread::Threads;
 
 const USAGE: &[u8] =
     b"usage: chaosrun (SOURCE | --mesh SEED --size N) [--nodes N] [--iterations owner|most] [--report]\n";
-
-/// Runs a text on threads and writes what it comes to.
-fn run_text<R: Threads + Wait + Sync, F: Files, S: Sink, G: Gate>(
-    rt: &R,
-    alloc: Global,
-    text: &[u8],
-    manner: Manner,
-    files: &mut F,
-    out: &mut S,
-    gate: &G,
-    mail: &mut Mail,
-) -> u8
-    requires short { length text.now ≤ 1048576 }
-    requires some_nodes { 1 ≤ manner.nodes }
-    requires few_nodes { manner.nodes ≤ 16 }
-    requires fresh { IsFresh mail.old.queues mail.old.seats.items }
-    ensures ends { EndsBy (Comes (RunsOnThreads manner) (reading (F.contents files.old) (F.faults files.old) (F.faults files.new)) text.now)
-        (CutIn (reading (F.contents files.old) (F.faults files.old) (F.faults files.new)) manner text.now) result
-        (left (S.faults out.old) (S.written out.old) mail.old) (left (S.faults out.new) (S.written out.new) mail.new) }
-    ensures queues { mail.new.queues ≡ mail.old.queues }
-    ensures contents { F.contents files.new ≡ F.contents files.old }
-    ensures faults { NoneFell (F.faults files.old) (F.faults files.new) }
-    ensures failures { S.faults out.old ≤ S.faults out.new }
-{
-    match text_threaded(rt, alloc, text, manner, files, gate, mail) {
-        Ok(plan) => end(out, plan.status, plan.text.as_slice()),
-        Err(Memory) => 70,
-    }
-}
-
-/// Reads a source's file and runs it on threads.
-fn run_file<R: Threads + Wait + Sync, F: Files, S: Sink, G: Gate>(
-    rt: &R,
-    alloc: Global,
-    name: &str,
-    manner: Manner,
-    files: &mut F,
-    out: &mut S,
-    gate: &G,
-    mail: &mut Mail,
-) -> u8
-    requires some_nodes { 1 ≤ manner.nodes }
-    requires few_nodes { manner.nodes ≤ 16 }
-    requires fresh { IsFresh mail.old.queues mail.old.seats.items }
-    ensures ends { EndsBy (FromOrigin (RunsOnThreads manner) (file name.now) (reading (F.contents files.old) (F.faults files.old) (F.faults files.new)))
-        (CutFrom (reading (F.contents files.old) (F.faults files.old) (F.faults files.new)) manner (file name.now)) result
-        (left (S.faults out.old) (S.written out.old) mail.old) (left (S.faults out.new) (S.written out.new) mail.new) }
-    ensures queues { mail.new.queues ≡ mail.old.queues }
-    ensures contents { F.contents files.new ≡ F.contents files.old }
-    ensures faults { NoneFell (F.faults files.old) (F.faults files.new) }
-    ensures failures { S.faults out.old ≤ S.faults out.new }
-{
-    match read_whole(alloc, files, name, SOURCE_LIMIT) {
-        Ok(text) => run_text(rt, alloc, text.as_slice(), manner, files, out, gate, mail),
-        Err(ReadStop::TooLong) => end(out, 65, TOO_LONG),
-        Err(ReadStop::Failed) => end_unread(alloc, name, out),
-        Err(ReadStop::Memory) => 70,
-    }
-}
-
-/// Makes a mesh and runs it on threads, as a source and files that were read.
-fn run_mesh<R: Threads + Wait + Sync, S: Sink, G: Gate>(
-    rt: &R,
-    alloc: Global,
-    seed: u32,
-    size: u32,
-    manner: Manner,
-    out: &mut S,
-    gate: &G,
-    mail: &mut Mail,
-) -> u8
-    requires least { 8 ≤ size }
-    requires most { size ≤ 100000 }
-    requires some_nodes { 1 ≤ manner.nodes }
-    requires few_nodes { manner.nodes ≤ 16 }
-    requires fresh { IsFresh mail.old.queues mail.old.seats.items }
-    ensures ends { (r : Reading) → EndsBy (FromOrigin (RunsOnThreads manner) (mesh seed size) r) (CutFrom r manner (mesh seed size)) result
-        (left (S.faults out.old) (S.written out.old) mail.old) (left (S.faults out.new) (S.written out.new) mail.new) }
-    ensures queues { mail.new.queues ≡ mail.old.queues }
-    ensures failures { S.faults out.old ≤ S.faults out.new }
-{
-    let Ok(made) = mesh(alloc, u64::from(seed), u64::from(size)) else {
-        return 70;
-    };
-    let source = made.source;
-    if source.len() > SOURCE_LIMIT {
-        return end(out, 65, TOO_LONG);
-    }
-    let mut files = MadeFiles { files: made.files };
-    run_text(
-        rt,
-        alloc,
-        source.as_slice(),
-        manner,
-        &mut files,
-        out,
-        gate,
-        mail,
-    )
-}
-
-/// Does what the words ask for.
-fn run_request<R: Threads + Wait + Sync, F: Files, S: Sink, G: Gate>(
-    rt: &R,
-    alloc: Global,
-    request: &Request<'_>,
-    files: &mut F,
-    out: &mut S,
-    gate: &G,
-    mail: &mut Mail,
-) -> u8
-    requires some_nodes { 1 ≤ request.now.manner.nodes }
-    requires few_nodes { request.now.manner.nodes ≤ 16 }
-    requires range { HasMeshInRange request.now.origin }
-    requires fresh { IsFresh mail.old.queues mail.old.seats.items }
-    ensures ends { EndsBy (FromOrigin (RunsOnThreads request.now.manner) (shown_origin request.now.origin) (reading (F.contents files.old) (F.faults files.old) (F.faults files.new)))
-        (CutFrom (reading (F.contents files.old) (F.faults files.old) (F.faults files.new)) request.now.manner (shown_origin request.now.origin)) result
-        (left (S.faults out.old) (S.written out.old) mail.old) (left (S.faults out.new) (S.written out.new) mail.new) }
-    ensures queues { mail.new.queues ≡ mail.old.queues }
-    ensures contents { F.contents files.new ≡ F.contents files.old }
-    ensures faults { NoneFell (F.faults files.old) (F.faults files.new) }
-    ensures failures { S.faults out.old ≤ S.faults out.new }
-{
-    let manner = request.manner;
-    match request.origin {
-        Origin::File(name) => run_file(rt, alloc, name, manner, files, out, gate, mail),
-        Origin::Mesh { seed, size } => run_mesh(rt, alloc, seed, size, manner, out, gate, mail),
-    }
-}
 
 /// Whether a request has neither `--plain` nor `--turns`.
 fn is_without_turns(manner: Manner) -> bool
@@ -182,28 +53,32 @@ fn requested_to_run<'a>(alloc: Global, words: &'a [String]) -> Result<Request<'a
     }
 }
 
+/// Does what a request asks for, if there is one.
 fn run<R: Threads + Wait + Sync, F: Files, S: Sink, G: Gate>(
     rt: &R,
     alloc: Global,
-    words: &[String],
+    request: &Result<Request<'_>, Refused>,
     files: &mut F,
     out: &mut S,
     gate: &G,
     mail: &mut Mail,
 ) -> u8
+    requires request { IsSound request.now }
     requires fresh { IsFresh mail.old.queues mail.old.seats.items }
-    ensures answer { EndsBy (ToCome run_usage_line RunsOnThreads (asked_to_run (map string_bytes words.now)) (reading (F.contents files.old) (F.faults files.old) (F.faults files.new)))
-        (IsCut (asked_to_run (map string_bytes words.now)) (reading (F.contents files.old) (F.faults files.old) (F.faults files.new))) result
-        (left (S.faults out.old) (S.written out.old) mail.old) (left (S.faults out.new) (S.written out.new) mail.new) }
+    ensures answer { (asked : Option Asked) → Tells asked request.now → RunAnswered asked
+        (files_read F.contents F.faults files.old files.new) result
+        (leaves S.faults S.written out.old mail.old) (leaves S.faults S.written out.new mail.new) }
     ensures queues { mail.new.queues ≡ mail.old.queues }
     ensures contents { F.contents files.new ≡ F.contents files.old }
     ensures faults { NoneFell (F.faults files.old) (F.faults files.new) }
     ensures failures { S.faults out.old ≤ S.faults out.new }
 {
-    match requested_to_run(alloc, words) {
-        Ok(request) => run_request(rt, alloc, &request, files, out, gate, mail),
-        Err(Refused::NotTaken) => end(out, 2, USAGE),
-        Err(Refused::Memory) => 70,
+    match called(alloc, request, USAGE, files) {
+        Ok(call) => {
+            let run = run_on_threads(rt, alloc, call.ready, call.manner, gate, mail);
+            end_run(out, run)
+        }
+        Err(stop) => end_stop(out, stop),
     }
 }
 
@@ -229,22 +104,20 @@ pub fn run_program<R: Threads + Wait + Sync, F: Files, S: Sink, G: Gate>(
     mail: &mut Mail,
 ) -> u8
     requires fresh { IsFresh mail.old.queues mail.old.seats.items }
-    ensures answer { EndsBy (ToCome run_usage_line RunsOnThreads (asked_to_run (map string_bytes words.now)) (reading (F.contents files.old) (F.faults files.old) (F.faults files.new)))
-        (IsCut (asked_to_run (map string_bytes words.now)) (reading (F.contents files.old) (F.faults files.old) (F.faults files.new))) result
-        (left (S.faults out.old) (S.written out.old) mail.old) (left (S.faults out.new) (S.written out.new) mail.new) }
-    ensures complete { (Rose (S.faults out.old) (S.faults out.new) → ⊥)
-        → NoneFailed (asked_to_run (map string_bytes words.now)) (reading (F.contents files.old) (F.faults files.old) (F.faults files.new))
-        → IsComplete (ToCome run_usage_line RunsOnThreads (asked_to_run (map string_bytes words.now)) (reading (F.contents files.old) (F.faults files.old) (F.faults files.new)))
-        (IsCut (asked_to_run (map string_bytes words.now)) (reading (F.contents files.old) (F.faults files.old) (F.faults files.new))) result
-        (left (S.faults out.old) (S.written out.old) mail.old) (left (S.faults out.new) (S.written out.new) mail.new) }
+    ensures answer { RunAnswered (asked_to_run (texts words.now))
+        (files_read F.contents F.faults files.old files.new) result
+        (leaves S.faults S.written out.old mail.old) (leaves S.faults S.written out.new mail.new) }
+    ensures complete { RunCompleted (asked_to_run (texts words.now))
+        (files_read F.contents F.faults files.old files.new) result
+        (leaves S.faults S.written out.old mail.old) (leaves S.faults S.written out.new mail.new) }
 
     // the headline: text, refusal, inspections, data letters, and nothing left, for every source that is run
-    ensures ran { (result ≡ 0) ⊎ (result ≡ 3)
-        → RanRight RunsOnThreads (asked_to_run (map string_bytes words.now)) (reading (F.contents files.old) (F.faults files.old) (F.faults files.new)) result
-        (left (S.faults out.old) (S.written out.old) mail.old) (left (S.faults out.new) (S.written out.new) mail.new) }
-    ensures headline { (result ≡ 0) ⊎ (result ≡ 3)
-        → Headline (asked_to_run (map string_bytes words.now)) (reading (F.contents files.old) (F.faults files.old) (F.faults files.new)) result
-        (left (S.faults out.old) (S.written out.old) mail.old) (left (S.faults out.new) (S.written out.new) mail.new) }
+    ensures ran { IsRun result → RanRight RunsOnThreads (asked_to_run (texts words.now))
+        (files_read F.contents F.faults files.old files.new) result
+        (leaves S.faults S.written out.old mail.old) (leaves S.faults S.written out.new mail.new) }
+    ensures headline { IsRun result → Headline (asked_to_run (texts words.now))
+        (files_read F.contents F.faults files.old files.new) result
+        (leaves S.faults S.written out.old mail.old) (leaves S.faults S.written out.new mail.new) }
 
     // the outside
     ensures queues { mail.new.queues ≡ mail.old.queues }
@@ -252,5 +125,6 @@ pub fn run_program<R: Threads + Wait + Sync, F: Files, S: Sink, G: Gate>(
     ensures faults { NoneFell (F.faults files.old) (F.faults files.new) }
     ensures failures { S.faults out.old ≤ S.faults out.new }
 {
-    run(rt, alloc, words, files, out, gate, mail)
+    let request = requested_to_run(alloc, words);
+    run(rt, alloc, &request, files, out, gate, mail)
 }

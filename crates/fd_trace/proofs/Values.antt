@@ -1,5 +1,6 @@
 -- The outcome of a scalar and of an offset from those of its parts.
-use Rattle.std.proofs.Common.{◌⊎◌, inl, inr, ◌≡◌, refl, ℕ, ℤ, pos, neg_ℤ, Bool, true, false, if◌then◌else◌, arith, List, [], ◌∷◌, ◌++◌, ap, sym, ◌∙◌, subst, Ok, Err, Some, None, unwrap_or, slice_get, get_or, length, ◌<◌, ◌≤◌}
+use Rattle.std.proofs.Common.{◌⊎◌, inl, inr, ◌≡◌, refl, ℕ, ℤ, pos, neg_ℤ, Bool, true, false, if◌then◌else◌, arith, List, [], ◌∷◌, ◌++◌, ap}
+use Rattle.std.proofs.Common.{sym, ◌∙◌, subst, Ok, Err, Some, None, unwrap_or, slice_get, get_or, length, ◌<◌, ◌≤◌}
 use Rattle.std.specs.List.{fold}
 use Rattle.std.specs.Prelude.{Result, All, IfOk}
 use Rattle.std.specs.Int.{w64}
@@ -10,11 +11,13 @@ use Rattle.fd_words.specs.declared.source.SourcePlace.{SourcePlace}
 use Rattle.fd_words.specs.declared.source.SourceFault.{SourceFault}
 use Rattle.fd_words.specs.declared.source.SourceStop.{SourceStop}
 use Rattle.fd_words.specs.declared.source.SourceStop.TheVariants.{Fault}
-use Rattle.fd_syntax.specs.declared.scalar.Arith.{Arith}
-use Rattle.fd_program.specs.Scalars.{exactly, scalar_value, sign_of, offset_value}
+use Rattle.fd_words.specs.declared.arith.Arith.{Arith}
+use Rattle.fd_program.specs.Scalars.{scalar_value, offset_value}
+use Rattle.fd_words.specs.Operators.{exactly, sign_of}
 use Rattle.fd_program.specs.Stores.{number_at}
 use Rattle.fd_program.specs.Terms.{IsTerm}
-use Rattle.fd_program.specs.declared.scalar.CheckedScalar.{CheckedScalar, Number, Variable, Negate', Binary', more_of-CheckedScalar, end_of-CheckedScalar}
+use Rattle.fd_program.specs.declared.scalar.CheckedScalar.{CheckedScalar, Number, Variable, Negate', Binary', more_of-CheckedScalar}
+use Rattle.fd_program.specs.declared.scalar.CheckedScalar.{end_of-CheckedScalar}
 use Rattle.fd_program.specs.declared.scalar.CheckedScalar as scalar
 use Rattle.fd_program.specs.declared.scalar.CheckedScalar.TheBlock.{shape-the_row-CheckedScalar-0, hidden-the_row-CheckedScalar-0}
 use Rattle.fd_program.specs.declared.scalar.CheckedTerm.{CheckedTerm}
@@ -42,7 +45,8 @@ zero_small : IsSmall (pos 0)
 zero_small = record { low = omega (arith, ints); high = omega (arith, ints) }
 
 small_at : (variables : List ℤ) (depth : ℕ) → All IsSmall variables
-    → ((x : ℤ) × (depth < length variables) × (slice_get variables depth ≡ Some x) × (get_or variables depth x ≡ x)) ⊎ ((length variables ≤ depth) × (slice_get variables depth ≡ None))
+    → ((x : ℤ) × (depth < length variables) × (slice_get variables depth ≡ Some x) × (get_or variables depth x ≡ x))
+    ⊎ ((length variables ≤ depth) × (slice_get variables depth ≡ None))
     → IsSmall (number_at variables depth)
 small_at variables depth h (inl w) = subst IsSmall (sym (ap (λ o. unwrap_or o (pos 0)) w.2)) (subst IsSmall w.3 (h depth w.0 w.1))
 small_at variables depth h (inr w) = subst IsSmall (sym (ap (λ o. unwrap_or o (pos 0)) w.1)) zero_small
@@ -53,12 +57,14 @@ small_or_zero variables depth h = small_at variables depth h (slice_get_cases va
 opposite_small : (z : ℤ) → IsSmall z → IsSmall (neg_ℤ z)
 opposite_small z h = record { low = omega (arith, ints); high = omega (arith, ints) }
 
-pub small_value : (variables : List ℤ) → All IsSmall variables → (s : CheckedScalar) → scalar_faults variables s ≡ [] → IsSmall (scalar_value variables s)
+pub small_value : (variables : List ℤ) → All IsSmall variables → (s : CheckedScalar) → scalar_faults variables s ≡ []
+    → IsSmall (scalar_value variables s)
 small_value variables h (Number value at) e = nothing_large at value e
 small_value variables h (Variable depth at) e = small_or_zero variables depth h
 small_value variables h (Negate' at s (more_of-CheckedScalar inner end_of-CheckedScalar)) e =
     opposite_small (scalar_value variables inner) (small_value variables h inner e)
-small_value variables h (Binary' op at s (more_of-CheckedScalar left end_of-CheckedScalar) t (more_of-CheckedScalar right end_of-CheckedScalar)) e =
+small_value variables h (Binary' op at s (more_of-CheckedScalar left end_of-CheckedScalar) t
+    (more_of-CheckedScalar right end_of-CheckedScalar)) e =
     nothing_large at _ (last_nothing (scalar_faults variables right) _ (last_nothing (scalar_faults variables left) _ e))
 
 -- ---- outcomes
@@ -74,7 +80,8 @@ pub negate_outcome : (variables : List ℤ) (at : SourcePlace) (inner : CheckedS
     → outcome (scalar_value variables (scalar.Negate at inner)) (scalar_faults variables (scalar.Negate at inner))
     ≡ opposed (outcome (scalar_value variables inner) (scalar_faults variables inner))
 unfolding shape-the_row-CheckedScalar-0 hidden-the_row-CheckedScalar-0 hidden
-negate_outcome variables at inner h = opposed_outcome (scalar_value variables inner) (scalar_faults variables inner) (small_value variables h inner)
+negate_outcome variables at inner h = opposed_outcome (scalar_value variables inner) (scalar_faults variables inner)
+    (small_value variables h inner)
 
 pub joined_outcome : (op : Arith) (at : SourcePlace) (a b : ℤ) (fs gs : List SourceFault)
     → outcome (exactly op a b) (fs ++ (gs ++ large at (exactly op a b))) ≡ joined op at (outcome a fs) (outcome b gs)
@@ -84,21 +91,27 @@ joined_outcome op at a b (f ∷ fs) gs = refl
 
 pub binary_outcome : (variables : List ℤ) (op : Arith) (at : SourcePlace) (left right : CheckedScalar)
     → outcome (scalar_value variables (scalar.Binary op at left right)) (scalar_faults variables (scalar.Binary op at left right))
-    ≡ joined op at (outcome (scalar_value variables left) (scalar_faults variables left)) (outcome (scalar_value variables right) (scalar_faults variables right))
+    ≡ joined op at (outcome (scalar_value variables left) (scalar_faults variables left))
+    (outcome (scalar_value variables right) (scalar_faults variables right))
 unfolding shape-the_row-CheckedScalar-0 hidden-the_row-CheckedScalar-0 hidden
 binary_outcome variables op at left right =
-    joined_outcome op at (scalar_value variables left) (scalar_value variables right) (scalar_faults variables left) (scalar_faults variables right)
+    joined_outcome op at (scalar_value variables left) (scalar_value variables right) (scalar_faults variables left)
+    (scalar_faults variables right)
 
 stays : (variables : List ℤ) (f : SourceStop) (ts : List CheckedTerm) → fold (term_joined variables) (Err f) ts ≡ Err f
 stays variables f [] = refl
 stays variables f (t ∷ ts) = stays variables f ts
 
-offset_further : (variables : List ℤ) (op : Arith) (at : SourcePlace) (z v : ℤ) (ts : List CheckedTerm) (fs gs : List SourceFault) → large at (exactly op z v) ≡ gs
-    → fold (term_joined variables) (Ok (exactly op z v)) ts ≡ outcome (offset_value variables (exactly op z v) ts) (offset_faults variables (exactly op z v) ts)
+offset_further : (variables : List ℤ) (op : Arith) (at : SourcePlace) (z v : ℤ) (ts : List CheckedTerm) (fs gs : List SourceFault)
+    → large at (exactly op z v) ≡ gs
+    → fold (term_joined variables) (Ok (exactly op z v)) ts ≡ outcome (offset_value variables (exactly op z v) ts)
+    (offset_faults variables (exactly op z v) ts)
     → fold (term_joined variables) (joined op at (Ok z) (outcome v fs)) ts
     ≡ outcome (offset_value variables (exactly op z v) ts) (fs ++ (gs ++ offset_faults variables (exactly op z v) ts))
-offset_further variables op at z v ts [] [] e rest = ap (λ (hs : List SourceFault). fold (term_joined variables) (outcome (exactly op z v) hs) ts) e ∙ rest
-offset_further variables op at z v ts [] (g ∷ gs) e rest = ap (λ (hs : List SourceFault). fold (term_joined variables) (outcome (exactly op z v) hs) ts) e ∙ stays variables (Fault g) ts
+offset_further variables op at z v ts [] [] e rest =
+    ap (λ (hs : List SourceFault). fold (term_joined variables) (outcome (exactly op z v) hs) ts) e ∙ rest
+offset_further variables op at z v ts [] (g ∷ gs) e rest =
+    ap (λ (hs : List SourceFault). fold (term_joined variables) (outcome (exactly op z v) hs) ts) e ∙ stays variables (Fault g) ts
 offset_further variables op at z v ts (f ∷ fs) gs e rest = stays variables (Fault f) ts
 
 pub offset_outcome : (variables : List ℤ) (z : ℤ) (ts : List CheckedTerm)
@@ -109,7 +122,8 @@ offset_outcome variables z (t ∷ ts) =
     (offset_outcome variables (exactly (sign_of t.minus) z (scalar_value variables t.scalar)) ts)
 
 pub of_same : (variables : List ℤ) (s : CheckedScalar) (r : Result ℤ SourceStop) → (t : CheckedScalar) → s ≡ t
-    → r ≡ outcome (scalar_value variables t) (scalar_faults variables t) → r ≡ outcome (scalar_value variables s) (scalar_faults variables s)
+    → r ≡ outcome (scalar_value variables t) (scalar_faults variables t)
+    → r ≡ outcome (scalar_value variables s) (scalar_faults variables s)
 of_same variables s r t e h = h ∙ ap (λ u. outcome (scalar_value variables u) (scalar_faults variables u)) (sym e)
 
 small_result : (z : ℤ) (fs : List SourceFault) (r : Result ℤ SourceStop) → (fs ≡ [] → IsSmall z) → r ≡ outcome z fs → IfOk r IsSmall

@@ -5,9 +5,10 @@ use Rattle.fd_words.specs.declared.source.SourcePlace.{SourcePlace}
 use Rattle.fd_words.specs.declared.source.SourceFault.{SourceFault}
 use Rattle.fd_words.specs.declared.source.SourceStop.{SourceStop}
 use Rattle.fd_words.specs.declared.source.SourceStop.TheVariants.{Fault, Memory}
-use Rattle.fd_syntax.specs.declared.scalar.Arith.{Arith}
+use Rattle.fd_words.specs.declared.arith.Arith.{Arith}
 use Rattle.fd_program.specs.Loops.{first_of}
-use Rattle.fd_program.specs.Scalars.{exactly, scalar_value, sign_of}
+use Rattle.fd_program.specs.Scalars.{scalar_value}
+use Rattle.fd_words.specs.Operators.{exactly, sign_of}
 use Rattle.fd_program.specs.declared.scalar.CheckedTerm.{CheckedTerm}
 use Rattle.fd_trace.specs.Sizes.{large, scalar_faults}
 

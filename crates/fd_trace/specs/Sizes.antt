@@ -6,9 +6,11 @@ use Rattle.std.specs.Prelude.{◌≡◌, refl, ℤ, pos, neg_ℤ, ◌||◌, int_
 use Rattle.fd_words.specs.declared.source.SourcePlace.{SourcePlace}
 use Rattle.fd_words.specs.declared.source.SourceFault.{SourceFault}
 use Rattle.fd_words.specs.declared.source.SourceCause.TheVariants as cause
-use Rattle.fd_syntax.specs.declared.scalar.Arith.{Arith}
-use Rattle.fd_program.specs.Scalars.{exactly, scalar_value, sign_of}
-use Rattle.fd_program.specs.declared.scalar.CheckedScalar.{CheckedScalar, Number, Variable, Negate', Binary', more_of-CheckedScalar, end_of-CheckedScalar}
+use Rattle.fd_words.specs.declared.arith.Arith.{Arith}
+use Rattle.fd_program.specs.Scalars.{scalar_value}
+use Rattle.fd_words.specs.Operators.{exactly, sign_of}
+use Rattle.fd_program.specs.declared.scalar.CheckedScalar.{CheckedScalar, Number, Variable, Negate', Binary', more_of-CheckedScalar}
+use Rattle.fd_program.specs.declared.scalar.CheckedScalar.{end_of-CheckedScalar}
 use Rattle.fd_program.specs.declared.scalar.CheckedScalar as scalar
 use Rattle.fd_program.specs.declared.scalar.CheckedTerm.{CheckedTerm}
 use Rattle.fd_program.specs.declared.reference.CheckedSubscript.{CheckedSubscript}
@@ -36,7 +38,8 @@ abbrev pub scalar_faults : List ℤ → CheckedScalar → List SourceFault
 scalar_faults variables (Number value at) = large at value
 scalar_faults variables (Variable depth at) = []
 scalar_faults variables (Negate' at s (more_of-CheckedScalar inner end_of-CheckedScalar)) = scalar_faults variables inner
-scalar_faults variables (Binary' op at s (more_of-CheckedScalar left end_of-CheckedScalar) t (more_of-CheckedScalar right end_of-CheckedScalar)) =
+scalar_faults variables (Binary' op at s (more_of-CheckedScalar left end_of-CheckedScalar) t
+    (more_of-CheckedScalar right end_of-CheckedScalar)) =
     scalar_faults variables left
     ++ (scalar_faults variables right ++ large at (exactly op (scalar_value variables left) (scalar_value variables right)))
 
@@ -67,6 +70,7 @@ scalar_faults-Negate variables at inner = refl
 
 pub scalar_faults-Binary : (variables : List ℤ) (op : Arith) (at : SourcePlace) (left right : CheckedScalar)
     → scalar_faults variables (scalar.Binary op at left right)
-    ≡ scalar_faults variables left ++ (scalar_faults variables right ++ large at (exactly op (scalar_value variables left) (scalar_value variables right)))
+    ≡ scalar_faults variables left
+    ++ (scalar_faults variables right ++ large at (exactly op (scalar_value variables left) (scalar_value variables right)))
 unfolding shape-the_row-CheckedScalar-0 hidden-the_row-CheckedScalar-0 hidden
 scalar_faults-Binary variables op at left right = refl

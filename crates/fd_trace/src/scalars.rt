@@ -1,13 +1,12 @@
-ghost use Rattle.std.specs.Prelude.{◌≡◌, ◌+ℤ◌, ◌-ℤ◌, ◌*ℤ◌, pos, neg_ℤ, All};
-ghost use Rattle.fd_program.specs.Scalars.{exactly, scalar_value, sign_of, offset_value};
+ghost use Rattle.std.specs.Prelude.{◌≡◌, pos, All};
+ghost use Rattle.fd_program.specs.Scalars.{scalar_value, offset_value};
 ghost use Rattle.fd_program.specs.Stores.{number_at};
 ghost use Rattle.fd_program.specs.Terms.{IsTerm};
 ghost use Rattle.fd_trace.specs.Sizes.{is_large, large, IsSmall, scalar_faults, offset_faults};
 ghost use Rattle.fd_trace.specs.Outcomes.{outcome, opposed, joined, term_joined};
 
 use fd_program::{CheckedScalar, CheckedTerm};
-use fd_syntax::Arith;
-use fd_words::{Numbers, SourceCause, SourceFault, SourcePlace, SourceStop, negated};
+use fd_words::{Arith, Numbers, SourceCause, SourceFault, SourcePlace, SourceStop, negated};
 
 /// The greatest size of a scalar value.
 const MOST: i128 = 1_099_511_627_776;
@@ -16,34 +15,6 @@ fn is_too_large(value: i128) -> bool
     ensures { result ≡ is_large value }
 {
     value > MOST || value < -MOST
-}
-
-fn product(a: i64, b: i64) -> i128
-    ensures { result ≡ a *ℤ b }
-{
-    i128::from(a) * i128::from(b)
-}
-
-fn sum(a: i64, b: i64) -> i128
-    ensures { result ≡ a +ℤ b }
-{
-    i128::from(a) + i128::from(b)
-}
-
-fn difference(a: i64, b: i64) -> i128
-    ensures { result ≡ a -ℤ b }
-{
-    i128::from(a) - i128::from(b)
-}
-
-fn exact(op: Arith, a: i64, b: i64) -> i128
-    ensures { result ≡ exactly op a b }
-{
-    match op {
-        Arith::Plus => sum(a, b),
-        Arith::Minus => difference(a, b),
-        Arith::Times => product(a, b),
-    }
 }
 
 /// A value, where it isn't too large.
@@ -82,7 +53,7 @@ fn join(
 {
     match left {
         Ok(left) => match right {
-            Ok(right) => sized(at, exact(op, left, right)),
+            Ok(right) => sized(at, op.exact(left, right)),
             Err(stop) => Err(stop),
         },
         Err(stop) => Err(stop),
@@ -130,12 +101,6 @@ pub fn term_value(variables: &Numbers, term: &CheckedScalar) -> i64
     }
 }
 
-fn sign(minus: bool) -> Arith
-    ensures { result ≡ sign_of minus }
-{
-    if minus { Arith::Minus } else { Arith::Plus }
-}
-
 fn add_term(
     variables: &Numbers,
     total: Result<i64, SourceStop>,
@@ -145,7 +110,7 @@ fn add_term(
     ensures { result ≡ term_joined variables.now total term.now }
 {
     let scalar = value(variables, &term.scalar);
-    join(sign(term.minus), term.at, total, scalar)
+    join(Arith::of_sign(term.minus), term.at, total, scalar)
 }
 
 /// The value of an offset, or what is too large first.

@@ -154,7 +154,8 @@ fn turn(
     requires named { HaveTerms checked.now.sites }
     requires small { All IsSmall variables.now }
     requires number { IsSmall number }
-    ensures way { Goes left.old left.new result (turn_way (λ inner count. way_of checked.now inner 0 count rest.now) variables.now at inside number) }
+    ensures way { Goes left.old left.new result (turn_way (λ inner count. way_of checked.now inner 0 count rest.now) variables.now at
+        inside number) }
     ensures steps { OnOk result (steps.new ≡ steps.old ++ steps_of checked.now.sites (variables.now ++ number ∷ []) 0 inside rest.now) }
 {
     match left.begin(at) {
@@ -185,8 +186,10 @@ fn all_turns(
     requires small { All IsSmall variables.now }
     requires low { IsSmall low }
     requires high { IsSmall high }
-    ensures way { Goes left.old left.new result (turns_way (λ inner count. way_of checked.now inner 0 count rest.now) variables.now at inside low high) }
-    ensures steps { OnOk result (steps.new ≡ steps.old ++ steps_of_turns (λ inner count. steps_of checked.now.sites inner 0 count rest.now) variables.now inside low high) }
+    ensures way { Goes left.old left.new result (turns_way (λ inner count. way_of checked.now inner 0 count rest.now) variables.now at
+        inside low high) }
+    ensures steps { OnOk result (steps.new ≡ steps.old ++ steps_of_turns (λ inner count. steps_of checked.now.sites inner 0 count
+        rest.now) variables.now inside low high) }
 {
     let mut number = i128::from(low);
     while number <= i128::from(high) {
@@ -225,8 +228,11 @@ fn run_do(
 ) -> Result<(), SourceStop>
     requires named { HaveTerms checked.now.sites }
     requires small { All IsSmall variables.now }
-    ensures way { Goes left.old left.new result (bad (scalar_faults variables.now low.now) ++ (bad (scalar_faults variables.now high.now) ++ turns_way (λ inner count. way_of checked.now inner 0 count rest.now) variables.now at inside (scalar_value variables.now low.now) (scalar_value variables.now high.now))) }
-    ensures steps { OnOk result (steps.new ≡ steps.old ++ steps_of_turns (λ inner count. steps_of checked.now.sites inner 0 count rest.now) variables.now inside (scalar_value variables.now low.now) (scalar_value variables.now high.now)) }
+    ensures way { Goes left.old left.new result (bad (scalar_faults variables.now low.now) ++ (bad (scalar_faults variables.now high.now)
+        ++ turns_way (λ inner count. way_of checked.now inner 0 count rest.now) variables.now at inside
+        (scalar_value variables.now low.now) (scalar_value variables.now high.now))) }
+    ensures steps { OnOk result (steps.new ≡ steps.old ++ steps_of_turns (λ inner count. steps_of checked.now.sites inner 0 count
+        rest.now) variables.now inside (scalar_value variables.now low.now) (scalar_value variables.now high.now)) }
 {
     let low = match passed_value(left, variables, low) {
         Ok(low) => low,
@@ -254,8 +260,10 @@ fn statement(
 ) -> Result<(), SourceStop>
     requires named { HaveTerms checked.now.sites }
     requires small { All IsSmall variables.now }
-    ensures way { Goes left.old left.new result (way_of_statement checked.now (λ inner count. way_of checked.now inner 0 count rest.now) variables.now first.now) }
-    ensures steps { OnOk result (steps.new ≡ steps.old ++ steps_of_statement checked.now.sites (λ inner count. steps_of checked.now.sites inner 0 count rest.now) variables.now first.now) }
+    ensures way { Goes left.old left.new result (way_of_statement checked.now (λ inner count. way_of checked.now inner 0 count rest.now)
+        variables.now first.now) }
+    ensures steps { OnOk result (steps.new ≡ steps.old ++ steps_of_statement checked.now.sites
+        (λ inner count. steps_of checked.now.sites inner 0 count rest.now) variables.now first.now) }
 {
     match first {
         CheckedStatement::Distribute {

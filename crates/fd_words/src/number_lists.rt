@@ -1,4 +1,4 @@
-ghost use Rattle.std.specs.Prelude.{◌≡◌, [], ◌∷◌, ◌++◌, ◌==◌, length, replicate, slice_get, slice_set, unwrap_or, OnOk, OnErr, IfOk};
+ghost use Rattle.std.specs.Prelude.{◌≡◌, [], ◌∷◌, ◌++◌, ◌==◌, length, pos, replicate, slice_get, slice_set, unwrap_or, OnOk, OnErr, IfOk};
 ghost use Rattle.std.specs.Option.{option_copied};
 ghost use Rattle.fd_words.specs.Lists.{list_at, pushed_at};
 
@@ -91,6 +91,38 @@ impl NumberLists {
             list.push(value)?;
         }
         Ok(())
+    }
+
+    /// Appends a row to the list at a place; nothing from the end on.
+    pub fn append_to(&mut self, at: u64, row: &[i64]) -> Result<(), Memory>
+        ensures ok { OnOk result (self.new ≡ slice_set self.old at (list_at self.old at ++ row.now)) }
+        ensures err { OnErr result (self.new ≡ self.old) }
+    {
+        if at < self.len() {
+            let list = &mut self.lists[at as usize];
+            list.append(row)?;
+        }
+        Ok(())
+    }
+
+    /// The number at a place of the list at a place; 0 where either isn't there.
+    pub fn value_at(&self, list: u64, at: u64) -> i64
+        ensures { result ≡ unwrap_or (slice_get (list_at self.now list) at) (pos 0) }
+    {
+        match self.get(list) {
+            Some(numbers) => numbers.get(at).unwrap_or(0),
+            None => 0,
+        }
+    }
+
+    /// The length of the list at a place; 0 from the end on.
+    pub fn len_at(&self, list: u64) -> u64
+        ensures { result ≡ length (list_at self.now list) }
+    {
+        match self.get(list) {
+            Some(numbers) => numbers.len(),
+            None => 0,
+        }
     }
 
     /// Changes the number at a place of the list at a place; nothing where either isn't there.

@@ -1,4 +1,4 @@
-ghost use Rattle.std.specs.Prelude.{◌≡◌, [], ◌∷◌, ◌++◌, ◌==◌, length, pos, slice_get, slice_set, OnOk, OnErr, IfOk};
+ghost use Rattle.std.specs.Prelude.{◌≡◌, [], ◌∷◌, ◌++◌, ◌==◌, length, pos, replicate, slice_get, slice_set, OnOk, OnErr, IfOk};
 ghost use Rattle.std.specs.List.{list_any};
 ghost use Rattle.std.specs.Ordering.{int_eq};
 
@@ -28,6 +28,14 @@ impl Numbers {
         Numbers {
             items: Vec::new(alloc),
         }
+    }
+
+    /// So many zeros.
+    pub fn zeros(alloc: Global, count: u64) -> Result<Numbers, Memory>
+        ensures { IfOk result (λ numbers. numbers ≡ replicate count (pos 0)) }
+    {
+        let items = vec![in alloc; 0; count as usize]?;
+        Ok(Numbers { items })
     }
 
     /// The numbers of a `Vec`, which takes no memory.

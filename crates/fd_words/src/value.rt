@@ -1,5 +1,7 @@
-ghost use Rattle.std.specs.Prelude.{◌≡◌, ◌≤◌, ◌<◌, ◌+ℤ◌, ◌-ℤ◌, ◌*ℤ◌, neg_ℤ};
+ghost use Rattle.std.specs.Prelude.{◌≡◌, ◌≤◌, ◌<◌, ◌+◌, ◌+ℤ◌, ◌-ℤ◌, ◌*ℤ◌, neg_ℤ, IfOk};
 ghost use Rattle.fd_words.specs.Value.{wrapped, remainder_of};
+
+use crate::Memory;
 
 /// The sum, modulo 2^64.
 pub fn plus(a: i64, b: i64) -> i64
@@ -37,4 +39,14 @@ pub fn remainder(value: i64, nodes: u32) -> u32
     ensures below { result < nodes }
 {
     value.rem_euclid(i64::from(nodes)) as u32
+}
+
+/// The sum of two counts; `Memory` where there would be 2^64 of something.
+pub fn count_sum(one: u64, other: u64) -> Result<u64, Memory>
+    ensures { IfOk result (λ sum. sum ≡ one + other) }
+{
+    match one.checked_add(other) {
+        Some(sum) => Ok(sum),
+        None => Err(Memory),
+    }
 }

@@ -9,6 +9,8 @@ mod deref;
 #[cfg(test)]
 mod dist;
 #[cfg(test)]
+mod edge;
+#[cfg(test)]
 mod example;
 #[cfg(test)]
 mod hash;

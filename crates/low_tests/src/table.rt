@@ -23,30 +23,3 @@ fn a_map_over_four_nodes(rt: HostRuntime) -> Result<(), Fail> {
     page_laws();
     Ok(())
 }
-
-#[test]
-fn the_last_pair_counts(rt: HostRuntime) -> Result<(), Fail> {
-    let mut pairs = NumberLists::empty(rt.alloc(), 2)?;
-    pairs.put(
-        0,
-        Numbers::from_vec(Vec::from_slice(rt.alloc(), [4, 0, 5, 1, 9, 1].as_slice())?),
-    );
-    pairs.put(
-        1,
-        Numbers::from_vec(Vec::from_slice(rt.alloc(), [4, 1, 5, 7].as_slice())?),
-    );
-    let mut counts = NumberLists::empty(rt.alloc(), 1)?;
-    counts.put(
-        0,
-        Numbers::from_vec(Vec::from_slice(rt.alloc(), [-1, 3].as_slice())?),
-    );
-
-    let own = page_counts(rt.alloc(), 5, 2, 1, &pairs)?;
-    assert_eq!(rt; own.as_slice(), [0, 2].as_slice());
-    let page = Pages::install(rt.alloc(), 5, 2, 1, &pairs, &counts)?;
-    assert_eq!(rt; page.look(4), Some(Place { owner: 1, local: 3 }));
-    assert_eq!(rt; page.look(5), Some(Place { owner: 1, local: 4 }));
-    assert_eq!(rt; page.look(6), None);
-    assert_eq!(rt; page.look(3), None);
-    Ok(())
-}

@@ -3,6 +3,10 @@
 #![tactic(auto)]
 
 #[cfg(test)]
+mod append;
+#[cfg(test)]
+mod bisect;
+#[cfg(test)]
 mod calling;
 #[cfg(test)]
 mod failures;

@@ -6,4 +6,5 @@ returns-clause-ends g c plan is = has_end (g.N.Phased.rows plan) (g.met.N.Phased
 
 pub returns-clause-within : goal.returns-clause-within
 returns-clause-within g c plan is end t p q e l =
-    upto_end (g.N.Phased.rows plan) (g.met.N.Phased.rows_fall plan is) (g.N.Phased.count plan) p q end t (g.met.N.Phased.rows_meet plan is) l e
+    upto_end (g.N.Phased.rows plan) (g.met.N.Phased.rows_fall plan is) (g.N.Phased.count plan) p q end t
+    (g.met.N.Phased.rows_meet plan is) l e

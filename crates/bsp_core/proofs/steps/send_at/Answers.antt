@@ -5,7 +5,12 @@ use Rattle.bsp_core.proofs.steps.send_at.Goals as goal
 
 pub returns-in_err-reserve-2-clause-err : goal.returns-in_err-reserve-2-clause-err
 returns-in_err-reserve-2-clause-err g c =
-    on_err c.from_residual-in_err-reserve-2.result (refl, items_same c.args.sent.now c.args.place c.reserve-2.new.self c.index-sent-place.result c.reserve-2.ensures.items, c.reserve.ensures.items)
+    on_err c.from_residual-in_err-reserve-2.result (
+      refl,
+      items_same c.args.sent.now c.args.place c.reserve-2.new.self
+          c.index-sent-place.result c.reserve-2.ensures.items,
+      c.reserve.ensures.items,
+    )
 
 pub post-letter-requires : goal.post-letter-requires
 post-letter-requires g c = c.requires.due _ (slice_get-get_or c.args.nodes.now c.args.at c.index-nodes-at.result c.requires.at)

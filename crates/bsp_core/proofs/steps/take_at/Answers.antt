@@ -8,8 +8,10 @@ unreachable-requires g c =
     let s = stray_not _ _ _ _ c.in-Err-Stray.ensures.stray in
     s.4 (c.requires.fits (get_or c.args.nodes.now c.args.at c.index-nodes-at.result) s.1 s.0 s.2 c.in_ok-letter-in-Some.letter
     (slice_get-get_or c.args.nodes.now c.args.at c.index-nodes-at.result c.requires.at) s.3
-    (front_read c.args.sent.now c.args.place c.index-sent-place.result c.deref.result.now (get_or c.args.taken.now c.args.place 0) c.in-Some.letter.now
-    c.in_ok-letter-in-Some.letter c.requires.place c.index-sent-place.is c.deref.ensures.value c.in-Some.ensures.lookup.3.0 c.in-Some.ensures.lookup.1
+    (front_read c.args.sent.now c.args.place c.index-sent-place.result c.deref.result.now (get_or c.args.taken.now c.args.place 0)
+    c.in-Some.letter.now
+    c.in_ok-letter-in-Some.letter c.requires.place c.index-sent-place.is c.deref.ensures.value c.in-Some.ensures.lookup.3.0
+    c.in-Some.ensures.lookup.1
     c.in_ok-letter-in-Some.ensures))
 
 pub returns-in-Ok-clause-ok : goal.returns-in-Ok-clause-ok
@@ -18,8 +20,10 @@ returns-in-Ok-clause-ok g c = (
   c.take.new.self,
   c.in_ok-letter-in-Some.letter,
   slice_get-get_or c.args.nodes.now c.args.at c.index-nodes-at.result c.requires.at,
-  (front_read c.args.sent.now c.args.place c.index-sent-place.result c.deref.result.now (get_or c.args.taken.now c.args.place 0) c.in-Some.letter.now
-      c.in_ok-letter-in-Some.letter c.requires.place c.index-sent-place.is c.deref.ensures.value c.in-Some.ensures.lookup.3.0 c.in-Some.ensures.lookup.1
+  (front_read c.args.sent.now c.args.place c.index-sent-place.result c.deref.result.now (get_or c.args.taken.now c.args.place 0)
+      c.in-Some.letter.now
+      c.in_ok-letter-in-Some.letter c.requires.place c.index-sent-place.is c.deref.ensures.value c.in-Some.ensures.lookup.3.0
+      c.in-Some.ensures.lookup.1
       c.in_ok-letter-in-Some.ensures),
   c.in-Ok.ensures.ok,
   refl,

@@ -5,7 +5,11 @@ use Rattle.bsp_core.proofs.steps.work_at.Goals as goal
 
 pub returns-in_err-work-clause-err : goal.returns-in_err-work-clause-err
 returns-in_err-work-clause-err g c =
-    on_err c.from_residual-in_err-work.result (views_same g.N.Phased.view c.args.nodes.now c.args.at c.work.new.self c.index-nodes-at.result c.in_err-work.ensures.err, c.reserve.ensures.items)
+    on_err c.from_residual-in_err-work.result (
+      views_same g.N.Phased.view c.args.nodes.now c.args.at c.work.new.self
+          c.index-nodes-at.result c.in_err-work.ensures.err,
+      c.reserve.ensures.items,
+    )
 
 pub returns-clause-ok : goal.returns-clause-ok
 returns-clause-ok g c = (

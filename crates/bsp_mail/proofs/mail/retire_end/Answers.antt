@@ -23,7 +23,8 @@ pub retire-requires-clause-peer : goal.retire-requires-clause-peer
 retire-requires-clause-peer c =
     let pair = c.requires.pair in
     let s = c.index_mut.result.now in
-    let me = number_is c.args.queues.now c.args.seats.now.items c.args.from c.args.to s s c.requires.shape pair.1.0 c.index_mut.ensures.value in
+    let me = number_is c.args.queues.now c.args.seats.now.items c.args.from c.args.to s s c.requires.shape pair.1.0
+    c.index_mut.ensures.value in
     (pair.0, λ x. pair.1.1 (sym (x ∙ me)))
 
 pub retire-requires-clause-end : goal.retire-requires-clause-end
@@ -38,7 +39,8 @@ retire-requires-clause-end c =
     let room : to < length xs = omega (arith, shape.count) in
     let me = number_is c.args.queues.now xs from to s s shape fits is in
     let b : part ins_of [] xs to ≡ s.ins.items = part_read ins_of [] xs to s room is in
-    let at : (e : End) → slice_get s.ins.items (below to from) ≡ Some e → IsInOf c.args.queues.now to from e = λ e h. c.requires.opened.ins e (ap (λ l. slice_get l (below to from)) b ∙ h) in
+    let at : (e : End) → slice_get s.ins.items (below to from) ≡ Some e → IsInOf c.args.queues.now to from e =
+    λ e h. c.requires.opened.ins e (ap (λ l. slice_get l (below to from)) b ∙ h) in
     subst (λ (k : ℕ). (e : End) → slice_get s.ins.items (below k from) ≡ Some e → IsInOf c.args.queues.now k from e) (sym me) at
 
 pub returns-clause-seats : goal.returns-clause-seats
@@ -75,5 +77,10 @@ returns-clause-heir c =
     let room : to < length xs = omega (arith, shape.count) in
     let h = c.retire.ensures.heir in
     let me = number_is queues xs from to s s shape fits is in
-    let x : taken_from s from ≡ taken_on xs from to = ap (λ (k : ℕ). (hand_at s.ins.items (below k from)).taken) me ∙ ap (λ l. (hand_at l (below to from)).taken) (sym (part_read ins_of [] xs to s room is)) in
-    (subst (λ (k : ℕ). (queue : Queue) → slice_get queues.lines.items (place from k) ≡ Some queue → IsSegPassOf queue.line c.retire.result) me h.0, h.1, h.2 ∙ x)
+    let x : taken_from s from ≡ taken_on xs from to = ap (λ (k : ℕ). (hand_at s.ins.items (below k from)).taken) me
+    ∙ ap (λ l. (hand_at l (below to from)).taken) (sym (part_read ins_of [] xs to s room is)) in (
+      subst (λ (k : ℕ). (queue : Queue) → slice_get queues.lines.items (place from k) ≡ Some queue
+          → IsSegPassOf queue.line c.retire.result) me h.0,
+      h.1,
+      h.2 ∙ x,
+    )

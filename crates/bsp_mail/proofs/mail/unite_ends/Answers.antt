@@ -26,7 +26,8 @@ pub unite-requires-clause-peer : goal.unite-requires-clause-peer
 unite-requires-clause-peer g c =
     let pair = c.requires.pair in
     let s = c.index_mut.result.now in
-    let me = sender_is c.args.queues.now c.args.seats.now.items c.args.from c.args.to s s c.requires.shape pair.0 c.index_mut.ensures.value in
+    let me = sender_is c.args.queues.now c.args.seats.now.items c.args.from c.args.to s s c.requires.shape pair.0
+    c.index_mut.ensures.value in
     (pair.1.0, λ x. pair.1.1 (x ∙ me))
 
 pub unite-requires-clause-end : goal.unite-requires-clause-end
@@ -42,7 +43,8 @@ unite-requires-clause-end g c =
     let room : from < length xs = omega (arith, shape.count) in
     let me = sender_is queues xs from to s s shape fits is in
     let b : part outs_of [] xs from ≡ s.outs.items = part_read outs_of [] xs from s room is in
-    let at : (e : End) → slice_get s.outs.items (below from to) ≡ Some e → IsOutOf queues from to e = λ e x. c.requires.end e (ap (λ l. slice_get l (below from to)) b ∙ x) in
+    let at : (e : End) → slice_get s.outs.items (below from to) ≡ Some e → IsOutOf queues from to e =
+    λ e x. c.requires.end e (ap (λ l. slice_get l (below from to)) b ∙ x) in
     subst (λ (k : ℕ). (e : End) → slice_get s.outs.items (below k to) ≡ Some e → IsOutOf queues k to e) (sym me) at
 
 pub unite-requires-clause-heir : goal.unite-requires-clause-heir
@@ -50,8 +52,13 @@ unite-requires-clause-heir g c =
     let queues = c.args.queues.now in
     let s = c.index_mut.result.now in
     let h = c.requires.heir in
-    let me = sender_is queues c.args.seats.now.items c.args.from c.args.to s s c.requires.shape c.requires.pair.0 c.index_mut.ensures.value in
-    (subst (λ (k : ℕ). (queue : Queue) → slice_get queues.lines.items (place k c.args.to) ≡ Some queue → IsSegPassOf queue.line c.args.heir) (sym me) h.0, h.1, h.2)
+    let me = sender_is queues c.args.seats.now.items c.args.from c.args.to s s c.requires.shape c.requires.pair.0
+    c.index_mut.ensures.value in (
+      subst (λ (k : ℕ). (queue : Queue) → slice_get queues.lines.items (place k c.args.to) ≡ Some queue
+          → IsSegPassOf queue.line c.args.heir) (sym me) h.0,
+      h.1,
+      h.2,
+    )
 
 pub returns-clause-seats : goal.returns-clause-seats
 returns-clause-seats g c =
@@ -84,5 +91,6 @@ returns-clause-prefix g c =
     let is = c.index_mut.ensures.value in
     let room : from < length xs = omega (arith, shape.count) in
     let me = sender_is queues xs from to s s shape fits is in
-    let y : sent_to s to ≡ sent_on xs from to = ap (λ (k : ℕ). (hand_at s.outs.items (below k to)).sent) me ∙ ap (λ l. (hand_at l (below from to)).sent) (sym (part_read outs_of [] xs from s room is)) in
+    let y : sent_to s to ≡ sent_on xs from to = ap (λ (k : ℕ). (hand_at s.outs.items (below k to)).sent) me
+    ∙ ap (λ l. (hand_at l (below from to)).sent) (sym (part_read outs_of [] xs from s room is)) in
     subst (λ (z : List Letter). IsPrefix c.args.heir.me.view.client.taken z) y c.unite.ensures.prefix

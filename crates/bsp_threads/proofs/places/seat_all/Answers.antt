@@ -20,7 +20,9 @@ loop-node-preserved g c =
     let long : length ns ≤ at = let n = i.3.count in omega arith in
     let x : DriveSeat g.row.N.Denot = record { node = c.in-Some.node; mail = c.replace-mail.result; works = 0; standing = Going } in
     let here : slice_get c.args.mails.now.items (length xs) ≡ Some x.mail =
-    ap (λ k. slice_get c.args.mails.now.items k) (sym is) ∙ sym (i.4.1 at long) ∙ slice_get_read cur (length cur) at dest refl room c.index_mut.ensures.value ∙ ap (λ (m : MailSeat). Some m) (sym c.replace-mail.ensures.value) in
+    ap (λ k. slice_get c.args.mails.now.items k) (sym is) ∙ sym (i.4.1 at long)
+    ∙ slice_get_read cur (length cur) at dest refl room c.index_mut.ensures.value
+    ∙ ap (λ (m : MailSeat). Some m) (sym c.replace-mail.ensures.value) in
     let same = same_more (length ns) at c.args.mails.now.items cur c.replace-mail.new.dest (let n = i.3.count in omega arith) i.4 in (
       tt,
       tt,

@@ -13,4 +13,7 @@ returns g t c =
     let front : AllZip R a c.front-1.given.0 = search rules in
     let back : AllZip R b c.back-1.given.0 = search rules in
     let whole : a ++ b ≡ c.args.seats.now = search rules in
-    record { gone = subst (λ k. AllZip R k (c.front-1.given.0 ++ c.back-1.given.0)) whole (zip_append R a b c.front-1.given.0 c.back-1.given.0 front back) }
+    record {
+      gone = subst (λ k. AllZip R k (c.front-1.given.0 ++ c.back-1.given.0)) whole
+          (zip_append R a b c.front-1.given.0 c.back-1.given.0 front back);
+    }

@@ -9,5 +9,6 @@ returns-in-Going g c =
     let going : c.args.seat.now.standing ≡ Going = search rules in
     let e = c.drive-answer.ensures in
     record {
-      gone = gone_on g.N.Phased.view (WorksFor g.N.Phased.IsPlan g.N.Phased.count g.N.Phased.rows g.N.Phased.holds) c.args.queues.now c.args.seat.now c.drive-answer.new.seat c.drive-answer.result going e.ready e.standing e.done;
+      gone = gone_on g.N.Phased.view (WorksFor g.N.Phased.IsPlan g.N.Phased.count g.N.Phased.rows g.N.Phased.holds) c.args.queues.now
+          c.args.seat.now c.drive-answer.new.seat c.drive-answer.result going e.ready e.standing e.done;
     }

@@ -9,7 +9,8 @@ use Rattle.bsp_threads.proofs.standing.stand_together.Goals as goal
 pub returns-then-eq-clause-strayed : goal.returns-then-eq-clause-strayed
 returns-then-eq-clause-strayed g c =
     let is : c.seat-item.result.standing ≡ Strayed = search rules in
-    let here : slice_get c.args.seats.now c.loop-seat.seat-index ≡ Some c.seat-item.result = slice_get_read c.args.seats.now _ c.loop-seat.seat-index c.seat-item.result refl c.loop-seat-test.true c.seat-item.is in
+    let here : slice_get c.args.seats.now c.loop-seat.seat-index ≡ Some c.seat-item.result =
+    slice_get_read c.args.seats.now _ c.loop-seat.seat-index c.seat-item.result refl c.loop-seat-test.true c.seat-item.is in
     λ e. (c.loop-seat.seat-index, c.seat-item.result, here, is)
 
 pub loop-seat-preserved : goal.loop-seat-preserved
@@ -19,7 +20,8 @@ loop-seat-preserved g c =
     let straight : x.standing ≢ Strayed = search rules in
     record {
       straight = c.joined-all.ensures.straight;
-      finished = λ e. let f = c.joined-all.ensures.finished e in seen_more HasFinished c.args.seats.now c.loop-seat.seat-index x c.loop-seat-test.true c.seat-item.is f.1 (i.finished f.0);
+      finished = λ e. let f = c.joined-all.ensures.finished e in seen_more HasFinished c.args.seats.now c.loop-seat.seat-index x
+          c.loop-seat-test.true c.seat-item.is f.1 (i.finished f.0);
       others = seen_more HasNotStrayed c.args.seats.now c.loop-seat.seat-index x c.loop-seat-test.true c.seat-item.is straight i.others;
     }
 

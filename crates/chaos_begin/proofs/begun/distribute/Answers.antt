@@ -1,6 +1,6 @@
 use Rattle.std.proofs.Common.{[], ap, sym, ◌∙◌}
 use Rattle.std.specs.Prelude.{if◌then◌else◌}
-use Rattle.chaos_run.specs.Phases.{moving_stages}
+use Rattle.plan_run.specs.Phases.{moving_stages}
 use Rattle.chaos_begin.proofs.Shares.{begun_plain, move_begins, repeat_known}
 use Rattle.chaos_begin.proofs.begun.distribute.Goals as goal
 
@@ -16,4 +16,5 @@ returns-clause-begun c = λ s past v between step.
     (c.in_ok-moving.ensures.begun s past v between step)
 
 pub returns-clause-plain : goal.returns-clause-plain
-returns-clause-plain c = begun_plain c.args.between.now c.in_ok-moving.moving c.move_begun.result c.move_begun.ensures c.in_ok-moving.ensures.plain
+returns-clause-plain c = begun_plain c.args.between.now c.in_ok-moving.moving c.move_begun.result c.move_begun.ensures
+    c.in_ok-moving.ensures.plain

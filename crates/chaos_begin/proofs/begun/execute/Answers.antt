@@ -11,4 +11,5 @@ returns-clause-begun c =
     let b = c.args.between.now in
     IfOk-weaker c.loop_begun.result _ _ (λ o f s past v between less.
     match_some _ (IsBegun s past (Forall c.args.site c.args.turn.now) b.me) o
-    (f s past v between (loop_is_at s past v b c.args.site c.args.turn.now c.in_ok-does.does between less (sym c.is_empty.ensures ∙ c.if-is_empty.false) c.in_ok-does.ensures))) c.loop_begun.ensures.begun
+    (f s past v between (loop_is_at s past v b c.args.site c.args.turn.now c.in_ok-does.does between less (sym c.is_empty.ensures
+    ∙ c.if-is_empty.false) c.in_ok-does.ensures))) c.loop_begun.ensures.begun

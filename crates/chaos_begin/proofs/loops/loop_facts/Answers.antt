@@ -1,7 +1,7 @@
 use Rattle.std.proofs.Common.{ap, sym, subst, ◌∙◌, arith, length}
 use Rattle.std.proofs.lemmas.Result.{IfOk-weaker}
 use Rattle.chaos_facts.proofs.Exact.{layout_count}
-use Rattle.chaos_reach.specs.Accepted.{IsAccepted}
+use Rattle.inspect_uses.specs.Accepted.{IsAccepted}
 use Rattle.fd_program.specs.declared.loop_facts.LoopFacts.{LoopFacts}
 use Rattle.chaos_begin.proofs.loops.loop_facts.Goals as goal
 
@@ -11,7 +11,8 @@ returns-clause-fit c =
     let sound = c.requires.sound in
     IfOk-weaker c.facts_of.result _ _ (λ f e. record {
       accepted = subst IsAccepted (sym e)
-          (c.facts_are_known.ensures.accepted b.checked.now b.nodes b.rule b.records.now c.args.site c.args.turn.now sound.checked sound.some_nodes sound.few_nodes c.requires.site c.requires.range);
+          (c.facts_are_known.ensures.accepted b.checked.now b.nodes b.rule b.records.now c.args.site c.args.turn.now sound.checked
+          sound.some_nodes sound.few_nodes c.requires.site c.requires.range);
       node = omega (arith, sound.node, ap (λ (f : LoopFacts). f.nodes) e);
       arrays = ap (λ (f : LoopFacts). f.arrays) e;
       few_arrays = omega (arith, sound.checked.few_arrays, ap (λ (f : LoopFacts). length f.arrays) e);

@@ -7,17 +7,21 @@ use Rattle.chaos_begin.proofs.moves.by_form.Goals as goal
 pub returns-in-Regular-clause-begun : goal.returns-in-Regular-clause-begun
 returns-in-Regular-clause-begun c =
     IfOk-weaker c.by_shape.result _ _ (λ o h s past v d between step here.
-    by_shape_moves s past v c.args.between.now d c.args.share c.in-Regular.shape c.args.form o c.in-Regular.is h between step here) c.by_shape.ensures
+    by_shape_moves s past v c.args.between.now d c.args.share c.in-Regular.shape c.args.form o c.in-Regular.is h between step here)
+    c.by_shape.ensures
 
 pub returns-in-Regular-clause-plain : goal.returns-in-Regular-clause-plain
 returns-in-Regular-clause-plain c =
-    IfOk-weaker c.by_shape.result _ _ (λ o h. shape_plain c.args.share c.in-Regular.shape c.args.form o c.in-Regular.is h) c.by_shape.ensures
+    IfOk-weaker c.by_shape.result _ _ (λ o h. shape_plain c.args.share c.in-Regular.shape c.args.form o c.in-Regular.is h)
+    c.by_shape.ensures
 
 pub returns-in_ok-moving-in-Map-clause-begun : goal.returns-in_ok-moving-in-Map-clause-begun
 returns-in_ok-moving-in-Map-clause-begun c = λ s past v d between step here.
-    by_map_moves s past v c.args.between.now d c.args.share c.in-Map.array c.args.form c.in_ok-moving-in-Map.moving c.requires.sound c.in-Map.is c.in_ok-moving-in-Map.ensures between step here
+    by_map_moves s past v c.args.between.now d c.args.share c.in-Map.array c.args.form c.in_ok-moving-in-Map.moving c.requires.sound
+    c.in-Map.is c.in_ok-moving-in-Map.ensures between step here
 
 pub returns-in_ok-moving-in-Map-clause-plain : goal.returns-in_ok-moving-in-Map-clause-plain
 returns-in_ok-moving-in-Map-clause-plain c =
     let h = c.in_ok-moving-in-Map.ensures in
-    subst (λ form. IsMoveOf c.args.share form c.in_ok-moving-in-Map.moving) (sym c.in-Map.is) (record { mine = h.mine; given = h.form; stages = h.stages })
+    subst (λ form. IsMoveOf c.args.share form c.in_ok-moving-in-Map.moving) (sym c.in-Map.is)
+    (record { mine = h.mine; given = h.form; stages = h.stages })

@@ -10,11 +10,13 @@ returns-clause-begun c =
     let b = c.args.between.now in
     IfOk-weaker c.with_share.result _ _ (λ o f s past v between step.
     f s past v c.args.d between step
-    (some_there (has_share b c.args.d) (IsShareOf b c.args.d (layout_extent b.checked.now.layouts c.args.d)) c.in_ok-share.share c.in_ok-share.ensures
+    (some_there (has_share b c.args.d) (IsShareOf b c.args.d (layout_extent b.checked.now.layouts c.args.d)) c.in_ok-share.share
+    c.in_ok-share.ensures
     (share_there s past v b c.args.d between step.0))) c.with_share.ensures.begun
 
 pub returns-clause-plain : goal.returns-clause-plain
 returns-clause-plain c =
     let b = c.args.between.now in
     IfOk-weaker c.with_share.result _ _ (λ o moves.
-    move_plain b c.args.d (layout_extent b.checked.now.layouts c.args.d) c.args.form c.in_ok-share.share o c.in_ok-share.ensures moves) c.with_share.ensures.plain
+    move_plain b c.args.d (layout_extent b.checked.now.layouts c.args.d) c.args.form c.in_ok-share.share o c.in_ok-share.ensures moves)
+    c.with_share.ensures.plain

@@ -7,5 +7,6 @@ use Rattle.chaos_begin.proofs.share.pieces.Given as goal
 
 abbrev pub invariant-loop-array : goal.invariant-loop-array
 invariant-loop-array l =
-    l.pieces ++ map (λ array. list_at l.lists array) (filter (λ array. decomposition_of l.arrays array == l.d) (range_with_len l.array (l.count - l.array)))
+    l.pieces ++ map (λ array. list_at l.lists array) (filter (λ array. decomposition_of l.arrays array == l.d)
+    (range_with_len l.array (l.count - l.array)))
     ≡ map (λ array. list_at l.lists array) (filter (λ array. decomposition_of l.arrays array == l.d) (below l.count))

@@ -1,6 +1,6 @@
 use Rattle.std.proofs.Common.{◌≡◌, ℕ, ap, sym, ◌∙◌, subst}
 use Rattle.std.specs.Prelude.{ℤ, pos}
-use Rattle.chaos_order.specs.Dealt.{dealt-none}
+use Rattle.list_laws.specs.Dealt.{dealt-none}
 use Rattle.chaos_deref.specs.Asking.{page_for}
 use Rattle.chaos_deref.proofs.Steps.{ask_step, all_asked}
 use Rattle.chaos_deref.proofs.asks.split.Goals as goal
@@ -10,7 +10,8 @@ loop-i-init c = c.in_ok-lists.ensures ∙ sym (dealt-none (page_for c.args.exten
 
 pub loop-i-preserved : goal.loop-i-preserved
 loop-i-preserved c =
-    ask_step c.args.extent c.args.nodes c.args.wanted.now c.loop-i.i (c.page_at-page.result) c.loop-i.lists c.ask.new.lists c.loop-i-test.true c.loop-i.invariant c.page_at-page.ensures.page c.in_ok-ask.ensures
+    ask_step c.args.extent c.args.nodes c.args.wanted.now c.loop-i.i (c.page_at-page.result) c.loop-i.lists c.ask.new.lists
+    c.loop-i-test.true c.loop-i.invariant c.page_at-page.ensures.page c.in_ok-ask.ensures
 
 pub returns : goal.returns
 returns c = all_asked c.args.extent c.args.nodes c.args.wanted.now c.loop-i.i c.loop-i.lists c.loop-i-test.false c.loop-i.invariant

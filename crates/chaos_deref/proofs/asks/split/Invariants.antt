@@ -1,5 +1,5 @@
 use Rattle.std.proofs.Common.{◌≡◌, take}
-use Rattle.chaos_order.specs.Dealt.{dealt}
+use Rattle.list_laws.specs.Dealt.{dealt}
 use Rattle.chaos_deref.specs.Asking.{page_for}
 use Rattle.chaos_deref.proofs.asks.split.Given as goal
 

@@ -8,4 +8,5 @@ use Rattle.chaos_engine.proofs.counts.totals.Given as goal
 abbrev pub invariant-loop-site : goal.invariant-loop-site
 invariant-loop-site l =
     (length l.counts ≡ l.site)
-    × (AreDone (λ (s : View NodeState). s) l.nodes → l.counts ≡ total_counts l.site (map (λ (v : View NodeState). v.state.end.counts) l.nodes))
+    × (AreDone (λ (s : View NodeState). s) l.nodes
+    → l.counts ≡ total_counts l.site (map (λ (v : View NodeState). v.state.end.counts) l.nodes))

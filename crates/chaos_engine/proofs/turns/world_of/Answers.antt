@@ -4,7 +4,7 @@ use Rattle.bsp_core.specs.Turns.{Begins}
 use Rattle.bsp_core.specs.Views.{View}
 use Rattle.chaos_entering.specs.Standing.{node_holds}
 use Rattle.chaos_entering.specs.State.{NodeState}
-use Rattle.chaos_run.specs.Rows.{node_row}
+use Rattle.plan_run.specs.Rows.{node_row}
 use Rattle.chaos_engine.specs.Runs.{plan_of}
 use Rattle.chaos_engine.proofs.Begun.{admitted, session_is}
 use Rattle.chaos_engine.proofs.turns.world_of.Goals as goal
@@ -28,7 +28,8 @@ returns-clause-begins c =
     let s = c.args.session.now in
     let store = c.args.store.now in
     let is = admitted s store c.requires in
-    subst (λ (l : List (View NodeState)). Begins (node_row (plan_of s store)) (node_holds (plan_of s store)) s.nodes (map (λ (v : View NodeState). v) l)) (sym c.in_ok-world.ensures.nodes)
+    subst (λ (l : List (View NodeState)). Begins (node_row (plan_of s store)) (node_holds (plan_of s store)) s.nodes
+    (map (λ (v : View NodeState). v) l)) (sym c.in_ok-world.ensures.nodes)
     (c.in_ok-nodes.ensures (plan_of s store) is (session_is s store c.requires) refl)
 
 pub returns-clause-at : goal.returns-clause-at

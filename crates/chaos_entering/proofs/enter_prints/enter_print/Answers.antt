@@ -10,9 +10,12 @@ returns-clause-made c =
 
 pub returns-clause-falls : goal.returns-clause-falls
 returns-clause-falls c =
-    no_more c.printed.result.left c.args.left (c.printed.ensures c.args.me c.args.session.now.nodes c.in_ok-rows.rows.own refl c.in_ok-rows.ensures.posted).left_is
+    no_more c.printed.result.left c.args.left (c.printed.ensures c.args.me c.args.session.now.nodes c.in_ok-rows.rows.own refl
+    c.in_ok-rows.ensures.posted).left_is
 
 pub returns-clause-right : goal.returns-clause-right
 returns-clause-right c = λ plan past rest st known same number come elements parts.
-    print_enters c.args.session.now plan past rest c.args.execution c.args.array c.args.me c.args.left st c.args.elements.now c.args.parts.now c.printed.result
-    (c.printed.ensures c.args.me c.args.session.now.nodes _ c.in_ok-rows.ensures.own c.in_ok-rows.ensures.posted) known same number come elements parts
+    print_enters c.args.session.now plan past rest c.args.execution c.args.array c.args.me c.args.left st c.args.elements.now
+    c.args.parts.now c.printed.result
+    (c.printed.ensures c.args.me c.args.session.now.nodes _ c.in_ok-rows.ensures.own c.in_ok-rows.ensures.posted) known same number come
+    elements parts

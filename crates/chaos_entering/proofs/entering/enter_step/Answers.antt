@@ -1,7 +1,7 @@
 use Rattle.std.proofs.Common.{sym, subst}
 use Rattle.std.proofs.lemmas.Result.{IfOk-weaker}
 use Rattle.chaos_begin.specs.Begins.{IsBegun, IsPlain}
-use Rattle.chaos_run.specs.Rows.{scene_in}
+use Rattle.plan_run.specs.Rows.{scene_in}
 use Rattle.chaos_entering.proofs.StepEntered.{move_begins, print_begins}
 use Rattle.chaos_entering.proofs.entering.enter_step.Goals as goal
 
@@ -18,7 +18,8 @@ pub returns-in-Move-clause-right : goal.returns-in-Move-clause-right
 returns-in-Move-clause-right c =
     IfOk-weaker c.enter_move.result _ _
     (λ e h plan past rest step st known same number named here pages next begun.
-    move_begins c.args.session.now c.args.between.now.me c.args.number c.in-Move.moving c.args.left e h plan past rest step st known same number next
+    move_begins c.args.session.now c.args.between.now.me c.args.number c.in-Move.moving c.args.left e h plan past rest step st known same
+    number next
     (subst (λ x. IsBegun (scene_in plan) past step c.args.between.now.me x) c.in-Move.is begun))
     c.enter_move.ensures.right
 

@@ -6,5 +6,12 @@ use Rattle.chaos_entering.proofs.loops.move_sends.Goals as goal
 pub returns : goal.returns
 returns c =
     IfOk-weaker c.enter_stage.result _ _
-    (λ x h. record { lists = c.in_ok-lists.lists; counts = c.as_slice.result.now; sent = h; due = c.in_ok-lists.ensures; counted = c.as_slice.ensures.value ∙ c.in_ok-counts.ensures })
-    (all_sent c.enter_stage.result c.args.naming c.args.me c.args.session.now.nodes c.in_ok-lists.lists c.as_slice.result.now c.enter_stage.ensures.own c.enter_stage.ensures.sizes c.enter_stage.ensures.posted)
+    (λ x h. record {
+      lists = c.in_ok-lists.lists;
+      counts = c.as_slice.result.now;
+      sent = h;
+      due = c.in_ok-lists.ensures;
+      counted = c.as_slice.ensures.value ∙ c.in_ok-counts.ensures;
+    })
+    (all_sent c.enter_stage.result c.args.naming c.args.me c.args.session.now.nodes c.in_ok-lists.lists c.as_slice.result.now
+    c.enter_stage.ensures.own c.enter_stage.ensures.sizes c.enter_stage.ensures.posted)

@@ -7,4 +7,5 @@ pub scatter_out-requires : goal.scatter_out-requires
 scatter_out-requires c = small_tells c.args.prepared.now.schedule.scatter_send (sym c.small.ensures ∙ c.if-small.true)
 
 pub returns-else-small : goal.returns-else-small
-returns-else-small c = λ h. absurd (never (sym (tells_small c.args.prepared.now.schedule.scatter_send h) ∙ sym c.small.ensures ∙ c.if-small.false))
+returns-else-small c = λ h. absurd (never (sym (tells_small c.args.prepared.now.schedule.scatter_send h) ∙ sym c.small.ensures
+    ∙ c.if-small.false))

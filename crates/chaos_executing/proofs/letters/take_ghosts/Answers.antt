@@ -7,4 +7,5 @@ pub gather_in-requires : goal.gather_in-requires
 gather_in-requires c = rows_tell c.args.taken.now c.args.prepared.now.schedule.gather_fetch (sym c.in_rows.ensures ∙ c.if-in_rows.true)
 
 pub returns-else-in_rows : goal.returns-else-in_rows
-returns-else-in_rows c = λ h. absurd (never (sym (tell_rows c.args.taken.now c.args.prepared.now.schedule.gather_fetch h) ∙ sym c.in_rows.ensures ∙ c.if-in_rows.false))
+returns-else-in_rows c = λ h. absurd (never (sym (tell_rows c.args.taken.now c.args.prepared.now.schedule.gather_fetch h)
+    ∙ sym c.in_rows.ensures ∙ c.if-in_rows.false))

@@ -6,5 +6,6 @@ use Rattle.chaos_facts.proofs.facts.layouts_of.Given as goal
 abbrev pub invariant-loop-d : goal.invariant-loop-d
 invariant-loop-d l = record {
   few : length l.names < 2 ^ 32;
-  layouts : l.layouts ++ map (layout_in l.records) (enumerate_from l.d (drop l.d l.names)) ≡ map (layout_in l.records) (enumerate_from 0 l.names);
+  layouts : l.layouts ++ map (layout_in l.records) (enumerate_from l.d (drop l.d l.names)) ≡ map (layout_in l.records)
+      (enumerate_from 0 l.names);
 }

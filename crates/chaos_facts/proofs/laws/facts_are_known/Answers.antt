@@ -1,4 +1,5 @@
-use Rattle.chaos_facts.proofs.Exact.{facts_are_exact, facts_are_accepted, steps_are_in}
+use Rattle.fd_program.specs.StepLaws.{steps_are_in}
+use Rattle.chaos_facts.proofs.Exact.{facts_are_exact, facts_are_accepted}
 use Rattle.chaos_facts.proofs.laws.facts_are_known.Goals as goal
 
 pub returns-clause-exact : goal.returns-clause-exact

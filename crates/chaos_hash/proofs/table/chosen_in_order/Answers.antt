@@ -2,7 +2,7 @@ use Rattle.std.proofs.Common.{ℕ, subst, rules, nat_eq}
 use Rattle.std.specs.Prelude.{IsPermutation}
 use Rattle.std.proofs.lemmas.List.Sorted.{IsNonDecreasingBy-from_sort_by_key}
 use Rattle.std.proofs.lemmas.Map.Made.{IsDistinct-keys_filter}
-use Rattle.chaos_order.proofs.Ascending.{sorted-entries}
+use Rattle.list_laws.proofs.Ascending.{sorted-entries}
 use Rattle.chaos_hash.specs.declared.held.Held.{Held}
 use Rattle.chaos_hash.specs.Stamps.{meets}
 use Rattle.chaos_hash.proofs.table.chosen_in_order.Goals as goal

@@ -12,8 +12,10 @@ loop-rest-preserved c =
     let one : to_z w64 (of_z w64 first) ≡ first = first_of (omega (arith, ints), search rules, grind (arith, ints)) in
     let two : to_z w64 (of_z w64 second) ≡ second = first_of (omega (arith, ints), search rules, grind (arith, ints)) in
     let told : to_z w64 (of_z w64 c.value.result) ≡ c.value.result = omega (arith, ints, c.value.type_inv) in
-    pair_step c.args.pieces.now c.loop-rest.rest.now c.behind-rest.result.now c.loop-rest.values c.push.new.self _ c.loop-rest-test.true c.behind-rest.ensures
-    (c.in_ok-push.ensures.ok ∙ ap (λ z. c.loop-rest.values ++ z ∷ []) (told ∙ c.value.ensures ∙ ap (λ z. piece_value c.args.pieces.now z (to_z w64 (of_z w64 second))) one ∙ ap (piece_value c.args.pieces.now first) two))
+    pair_step c.args.pieces.now c.loop-rest.rest.now c.behind-rest.result.now c.loop-rest.values c.push.new.self _ c.loop-rest-test.true
+    c.behind-rest.ensures
+    (c.in_ok-push.ensures.ok ∙ ap (λ z. c.loop-rest.values ++ z ∷ []) (told ∙ c.value.ensures
+    ∙ ap (λ z. piece_value c.args.pieces.now z (to_z w64 (of_z w64 second))) one ∙ ap (piece_value c.args.pieces.now first) two))
     c.loop-rest.invariant
 
 pub returns : goal.returns

@@ -5,4 +5,5 @@ use Rattle.chaos_inspect.proofs.index.values.Given as goal
 
 abbrev pub invariant-loop-spot : goal.invariant-loop-spot
 invariant-loop-spot l =
-    l.values ++ draws l.answers l.drawn (map (λ (s : Spot). s.owner) (drop l.spot-index l.spots)) ≡ draws l.answers (replicate 16 0) (map (λ (s : Spot). s.owner) l.spots)
+    l.values ++ draws l.answers l.drawn (map (λ (s : Spot). s.owner) (drop l.spot-index l.spots)) ≡ draws l.answers (replicate 16 0)
+    (map (λ (s : Spot). s.owner) l.spots)

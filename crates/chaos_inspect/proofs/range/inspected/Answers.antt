@@ -3,7 +3,7 @@ use Rattle.std.specs.Int.{w64, w128}
 use Rattle.std.proofs.lemmas.Int.{ints}
 use Rattle.fd_program.specs.Homes.{provisional_home}
 use Rattle.fd_program.specs.Loops.{range_of}
-use Rattle.chaos_inspect.proofs.Ranges.{fewer_left, kept_further, kept_done}
+use Rattle.fd_program.specs.RangeLaws.{fewer_left, kept_further, kept_done}
 use Rattle.chaos_inspect.proofs.range.inspected.Goals as goal
 
 pub loop-i-smaller : goal.loop-i-smaller
@@ -36,6 +36,8 @@ returns c =
     let over : to_z w64 (of_z w64 c.args.facts.now.turn.high) <ℤ to_z w128 c.loop-i.i-bits = omega (arith, ints) in
     let low : to_z w64 (of_z w64 c.args.facts.now.turn.low) ≡ c.args.facts.now.turn.low = omega (arith, ints) in
     let high : to_z w64 (of_z w64 c.args.facts.now.turn.high) ≡ c.args.facts.now.turn.high = omega (arith, ints) in
-    kept_done (λ z. provisional_home c.args.facts.now z == c.args.me) c.loop-i.list (to_z w128 c.loop-i.i-bits) (to_z w64 (of_z w64 c.args.facts.now.turn.high)) _ over c.loop-i.invariant.rest
-    ∙ ap (λ z. filter (λ k. provisional_home c.args.facts.now k == c.args.me) (range_of z (to_z w64 (of_z w64 c.args.facts.now.turn.high)))) low
+    kept_done (λ z. provisional_home c.args.facts.now z == c.args.me) c.loop-i.list (to_z w128 c.loop-i.i-bits)
+    (to_z w64 (of_z w64 c.args.facts.now.turn.high)) _ over c.loop-i.invariant.rest
+    ∙ ap (λ z. filter (λ k. provisional_home c.args.facts.now k == c.args.me)
+    (range_of z (to_z w64 (of_z w64 c.args.facts.now.turn.high)))) low
     ∙ ap (λ z. filter (λ k. provisional_home c.args.facts.now k == c.args.me) (range_of c.args.facts.now.turn.low z)) high

@@ -7,7 +7,8 @@ use Rattle.chaos_inspect.proofs.range.inspected.Given as goal
 abbrev pub invariant-loop-i : goal.invariant-loop-i
 invariant-loop-i l = record {
   low : l.low ≤ℤ l.i;
-  rest : l.list ++ filter (λ i. provisional_home l.facts i == l.me) (range_of l.i l.high) ≡ filter (λ i. provisional_home l.facts i == l.me) (range_of l.low l.high);
+  rest : l.list ++ filter (λ i. provisional_home l.facts i == l.me) (range_of l.i l.high)
+      ≡ filter (λ i. provisional_home l.facts i == l.me) (range_of l.low l.high);
 }
 
 abbrev pub decreases-loop-i : goal.decreases-loop-i

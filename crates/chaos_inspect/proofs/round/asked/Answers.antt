@@ -3,7 +3,7 @@ use Rattle.std.specs.List.{AllByRecursion}
 use Rattle.std.proofs.lemmas.Result.{IfOk-weaker}
 use Rattle.fd_program.specs.Uses.{is_met}
 use Rattle.fd_program.specs.declared.loop_use.Use.{Use}
-use Rattle.chaos_asking.specs.Asks.{IsAsked}
+use Rattle.inspect_places.specs.Asks.{IsAsked}
 use Rattle.chaos_inspect.specs.Walking.{uses_through}
 use Rattle.chaos_inspect.proofs.Rounds.{asked_met}
 use Rattle.chaos_inspect.proofs.round.asked.Goals as goal

@@ -11,5 +11,8 @@ whole n m none = omega (arith, div-add-mod' n m)
 pub returns-else-group-eq0 : goal.returns-else-group-eq0
 returns-else-group-eq0 c =
     let n = c.args.count in
-    let m = c.args.group in
-    (λ none. (n / m, whole n m (eqb-true (n % m) 0 none)), λ (times, is). eq-eqb (n % m) 0 (ap (λ (x : ℕ). x % m) is ∙ mul-mod_left times m))
+    let m = c.args.group in (
+      λ none. (n / m, whole n m (eqb-true (n % m) 0 none)),
+      λ (times, is). eq-eqb (n % m) 0 (ap (λ (x : ℕ). x % m) is
+          ∙ mul-mod_left times m),
+    )

@@ -11,19 +11,23 @@ returns-in_err-slot-clause-keeps c = λ q h found. (h, ap (λ (s : Stamps). fin.
 pub returns-in_ok-slot-clause-seen : goal.returns-in_ok-slot-clause-seen
 returns-in_ok-slot-clause-seen c = λ q.
     ap (λ m. bare (fin.get m q)) c.in_ok-slot.ensures.entered
-    ∙ step.bare-insert c.args.table.now.held c.args.item.element c.args.item.place c.args.item.stamp c.in_ok-slot.slot c.args.item.place.owner c.args.me q c.if-item-me.false
+    ∙ step.bare-insert c.args.table.now.held c.args.item.element c.args.item.place c.args.item.stamp c.in_ok-slot.slot
+    c.args.item.place.owner c.args.me q c.if-item-me.false
 
 pub returns-in_ok-slot-clause-local : goal.returns-in_ok-slot-clause-local
 returns-in_ok-slot-clause-local c = (
   c.if-item-me.false,
   subst (λ m. (h : _) × (fin.get m c.args.item.element ≡ Some h) × (h.slot ≡ c.in_ok-slot.slot)) (sym c.in_ok-slot.ensures.entered)
-      (step.local-insert c.args.table.now.held c.args.item.element c.args.item.place c.args.item.stamp c.in_ok-slot.slot (IsFree c.args.table.now.held) c.in_ok-slot.ensures.slot),
+      (step.local-insert c.args.table.now.held c.args.item.element c.args.item.place c.args.item.stamp c.in_ok-slot.slot
+      (IsFree c.args.table.now.held) c.in_ok-slot.ensures.slot),
 )
 
 pub returns-in_ok-slot-clause-keeps : goal.returns-in_ok-slot-clause-keeps
 returns-in_ok-slot-clause-keeps c =
-    subst (KeepsSlots c.args.table.now.held) (sym c.in_ok-slot.ensures.entered) (step.keeps-insert c.args.table.now.held c.args.item.element c.args.item.place c.args.item.stamp c.in_ok-slot.slot)
+    subst (KeepsSlots c.args.table.now.held) (sym c.in_ok-slot.ensures.entered)
+    (step.keeps-insert c.args.table.now.held c.args.item.element c.args.item.place c.args.item.stamp c.in_ok-slot.slot)
 
 pub returns-in_ok-slot-clause-few : goal.returns-in_ok-slot-clause-few
 returns-in_ok-slot-clause-few c =
-    subst (λ m. fin.len m ≤ fin.len c.args.table.now.held + 1) (sym c.in_ok-slot.ensures.entered) (step.few-insert c.args.table.now.held c.args.item.element c.args.item.place c.args.item.stamp c.in_ok-slot.slot)
+    subst (λ m. fin.len m ≤ fin.len c.args.table.now.held + 1) (sym c.in_ok-slot.ensures.entered)
+    (step.few-insert c.args.table.now.held c.args.item.element c.args.item.place c.args.item.stamp c.in_ok-slot.slot)

@@ -6,4 +6,5 @@ use Rattle.chaos_merge.proofs.owners.beyond.Goals as goal
 pub returns : goal.returns
 returns c =
     subst (λ (es : List (ℕ × Held)). IfOk c.for_owners.result (λ lists. lists ≡ by_owner c.args.nodes es))
-    (c.as_slice-2.ensures ∙ c.in_ok-more.ensures ∙ ap (unstamped c.args.held) (c.as_slice.ensures ∙ c.in_ok-found.ensures)) c.for_owners.ensures
+    (c.as_slice-2.ensures ∙ c.in_ok-more.ensures ∙ ap (unstamped c.args.held) (c.as_slice.ensures ∙ c.in_ok-found.ensures))
+    c.for_owners.ensures

@@ -4,6 +4,7 @@ use Rattle.chaos_move.proofs.apply.apply_combined.Goals as goal
 
 pub loop-at-preserved : goal.loop-at-preserved
 loop-at-preserved c =
-    applied_more c.as_slice-rows.result.now c.as_slice-all.result.now c.loop-at.at _ (omega arith) c.args.operators.now c.loop-at.pieces c.combine.new.pieces _ c.value_for.result c.loop-at.invariant
+    applied_more c.as_slice-rows.result.now c.as_slice-all.result.now c.loop-at.at _ (omega arith) c.args.operators.now c.loop-at.pieces
+    c.combine.new.pieces _ c.value_for.result c.loop-at.invariant
     c.value_for.ensures
     c.combine.ensures

@@ -16,4 +16,5 @@ loop-k-preserved c =
     c.place.ensures c.loop-k.invariant c.set.ensures
 
 pub returns : goal.returns
-returns c = fill_ended c.loop-k.values c.args.rows.now (filled c.args.values.now c.args.rows.now) c.loop-k.k c.loop-k-test.false c.loop-k.invariant
+returns c = fill_ended c.loop-k.values c.args.rows.now (filled c.args.values.now c.args.rows.now) c.loop-k.k c.loop-k-test.false
+    c.loop-k.invariant

@@ -1,6 +1,6 @@
 use Rattle.std.proofs.Common.{◌≡◌, pos}
 use Rattle.std.specs.List.{range_with_len}
-use Rattle.chaos_order.specs.Dealt.{dealt}
+use Rattle.list_laws.specs.Dealt.{dealt}
 use Rattle.chaos_remap.specs.Remapping.{new_owner}
 use Rattle.chaos_remap.proofs.plan.plan_remap.Given as goal
 

@@ -6,6 +6,7 @@ use Rattle.chaos_remap.proofs.rows.read_rows.Goals as goal
 
 pub loop-sender-preserved : goal.loop-sender-preserved
 loop-sender-preserved c =
-    letter_more (λ (sender : ℕ). rows_of c.args.width sender (list_at c.args.taken.now sender)) c.loop-sender.sender c.loop-sender.rows.items c.add_rows.new.rows.items _ c.loop-sender.invariant
+    letter_more (λ (sender : ℕ). rows_of c.args.width sender (list_at c.args.taken.now sender)) c.loop-sender.sender
+    c.loop-sender.rows.items c.add_rows.new.rows.items _ c.loop-sender.invariant
     c.in_ok-add_rows.ensures
     (ap (rows_of c.args.width c.loop-sender.sender) c.list_of.ensures)

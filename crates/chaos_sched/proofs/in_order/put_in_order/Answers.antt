@@ -7,4 +7,5 @@ use Rattle.chaos_sched.proofs.in_order.put_in_order.Goals as goal
 pub returns : goal.returns
 unfolding in_order
 returns c =
-    dedup_same _ same_element _ (λ x y b f' x' y' k. search rules) _ _ c.dedup_by.ensures.filtered ∙ ap (dedup same_element) c.ascend.ensures
+    dedup_same _ same_element _ (λ x y b f' x' y' k. search rules) _ _ c.dedup_by.ensures.filtered
+    ∙ ap (dedup same_element) c.ascend.ensures

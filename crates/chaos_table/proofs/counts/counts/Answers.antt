@@ -14,5 +14,6 @@ pub loop-node-preserved : goal.loop-node-preserved
 loop-node-preserved c =
     let places : length c.tally-tally.result ≡ 16 = search rules in
     let low : c.loop-node.node < length c.tally-tally.result = omega arith in
-    counted_more (length_in c.args.owners.now) c.loop-node.node (get_or c.tally-tally.result c.loop-node.node 0) c.loop-node.counts c.note.new.counts
+    counted_more (length_in c.args.owners.now) c.loop-node.node (get_or c.tally-tally.result c.loop-node.node 0) c.loop-node.counts
+    c.note.new.counts
     c.loop-node.invariant c.in_ok-note.ensures (c.tally-tally.ensures c.loop-node.node low)

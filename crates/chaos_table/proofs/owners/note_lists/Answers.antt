@@ -6,5 +6,7 @@ use Rattle.chaos_table.proofs.owners.note_lists.Goals as goal
 
 pub loop-list-preserved : goal.loop-list-preserved
 loop-list-preserved c =
-    list_step c.args.first c.args.nodes c.args.lists.now c.loop-list.list-index c.list-item.result c.loop-list.owners.items c.note_pairs.new.owners.items _ c.loop-list-test.true c.list-item.is
-    (c.note_pairs.ensures ∙ ap (λ xs. noted_all c.args.first c.args.nodes (pairs_in xs) c.loop-list.owners.items) c.as_slice.ensures) c.loop-list.invariant
+    list_step c.args.first c.args.nodes c.args.lists.now c.loop-list.list-index c.list-item.result c.loop-list.owners.items
+    c.note_pairs.new.owners.items _ c.loop-list-test.true c.list-item.is
+    (c.note_pairs.ensures ∙ ap (λ xs. noted_all c.args.first c.args.nodes (pairs_in xs) c.loop-list.owners.items) c.as_slice.ensures)
+    c.loop-list.invariant

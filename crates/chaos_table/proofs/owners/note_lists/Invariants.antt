@@ -4,4 +4,5 @@ use Rattle.chaos_table.specs.Noting.{noted_all}
 use Rattle.chaos_table.proofs.owners.note_lists.Given as goal
 
 abbrev pub invariant-loop-list : goal.invariant-loop-list
-invariant-loop-list l = noted_all l.first l.nodes (all_pairs (drop l.list-index l.lists)) l.owners.items ≡ noted_all l.first l.nodes (all_pairs l.lists) l.fn.owners.items
+invariant-loop-list l = noted_all l.first l.nodes (all_pairs (drop l.list-index l.lists)) l.owners.items ≡ noted_all l.first l.nodes
+    (all_pairs l.lists) l.fn.owners.items

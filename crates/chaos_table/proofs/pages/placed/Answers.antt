@@ -14,7 +14,9 @@ loop-owner-preserved c =
     let size = c.loop-owner.invariant.size in
     record {
       size = length-set next o (get_or next o 0 + 1) ∙ size;
-      placed = push_placed (λ node. get_or c.args.before node 0) owners next i c.loop-owner.places c.push.new.self c.loop-owner-test.true c.loop-owner.invariant.placed
+      placed = push_placed (λ node. get_or c.args.before node 0) owners next i c.loop-owner.places c.push.new.self c.loop-owner-test.true
+          c.loop-owner.invariant.placed
           (c.loop-owner.invariant.next o low) c.in_ok-push.ensures.ok;
-      next = λ k h. next_step owners next (λ node. get_or c.args.before node 0) i k o c.loop-owner-test.true refl (omega (arith, size, h)) (c.loop-owner.invariant.next k h);
+      next = λ k h. next_step owners next (λ node. get_or c.args.before node 0) i k o c.loop-owner-test.true refl (omega (arith, size, h))
+          (c.loop-owner.invariant.next k h);
     }

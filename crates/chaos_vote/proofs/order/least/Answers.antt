@@ -9,21 +9,25 @@ returns-clause-least c = all_votes c.args.votes.now c.loop-vote.vote-index c.loo
 pub returns-clause-none : goal.returns-clause-none
 returns-clause-none c =
     let votes = c.args.votes.now in
-    let e : c.loop-vote.least ≡ least_of votes = all_votes votes c.loop-vote.vote-index c.loop-vote.least c.loop-vote-test.false c.loop-vote.invariant in
+    let e : c.loop-vote.least ≡ least_of votes = all_votes votes c.loop-vote.vote-index c.loop-vote.least c.loop-vote-test.false
+    c.loop-vote.invariant in
     none_where votes c.loop-vote.least (subst (IsLeast votes) (sym e) (is_least votes))
 
 pub returns-clause-told : goal.returns-clause-told
 returns-clause-told c =
     let votes = c.args.votes.now in
-    let e : c.loop-vote.least ≡ least_of votes = all_votes votes c.loop-vote.vote-index c.loop-vote.least c.loop-vote-test.false c.loop-vote.invariant in
+    let e : c.loop-vote.least ≡ least_of votes = all_votes votes c.loop-vote.vote-index c.loop-vote.least c.loop-vote-test.false
+    c.loop-vote.invariant in
     one_of votes c.loop-vote.least (subst (IsLeast votes) (sym e) (is_least votes))
 
 pub returns-clause-no_less : goal.returns-clause-no_less
 returns-clause-no_less c =
     let votes = c.args.votes.now in
-    let e : c.loop-vote.least ≡ least_of votes = all_votes votes c.loop-vote.vote-index c.loop-vote.least c.loop-vote-test.false c.loop-vote.invariant in
+    let e : c.loop-vote.least ≡ least_of votes = all_votes votes c.loop-vote.vote-index c.loop-vote.least c.loop-vote-test.false
+    c.loop-vote.invariant in
     none_less votes c.loop-vote.least (subst (IsLeast votes) (sym e) (is_least votes))
 
 pub loop-vote-preserved : goal.loop-vote-preserved
 loop-vote-preserved c =
-    next_vote c.args.votes.now c.loop-vote.vote-index _ c.loop-vote.least c.lesser_of-least.result c.loop-vote-test.true c.lesser_of-least.ensures c.loop-vote.invariant
+    next_vote c.args.votes.now c.loop-vote.vote-index _ c.loop-vote.least c.lesser_of-least.result c.loop-vote-test.true
+    c.lesser_of-least.ensures c.loop-vote.invariant

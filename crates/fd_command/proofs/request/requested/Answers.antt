@@ -20,12 +20,14 @@ pub returns-in-None-clause-refused : goal.returns-in-None-clause-refused
 returns-in-None-clause-refused c =
     let words = map string_bytes c.args.words.now in
     let clear : list_all is_clear words ≡ true = search rules in
-    let asks : AsksBy words (rows_of (found_of c.in-Ok.matches)) = subst (AsksBy words) (sym c.in-Ok.ensures.rows) (accepted words clear c.in-Ok.ensures.taken) in
+    let asks : AsksBy words (rows_of (found_of c.in-Ok.matches)) = subst (AsksBy words) (sym c.in-Ok.ensures.rows)
+    (accepted words clear c.in-Ok.ensures.taken) in
     λ same. asks.4 ∙ sym (c.in-None.ensures.asked asks.0 asks.2 asks.1 asks.3)
 
 pub returns-clause-taken : goal.returns-clause-taken
 returns-clause-taken c =
     let words = map string_bytes c.args.words.now in
     let clear : list_all is_clear words ≡ true = search rules in
-    let asks : AsksBy words (rows_of (found_of c.in-Ok.matches)) = subst (AsksBy words) (sym c.in-Ok.ensures.rows) (accepted words clear c.in-Ok.ensures.taken) in
+    let asks : AsksBy words (rows_of (found_of c.in-Ok.matches)) = subst (AsksBy words) (sym c.in-Ok.ensures.rows)
+    (accepted words clear c.in-Ok.ensures.taken) in
     asks.4 ∙ sym (c.in-Some.ensures.asked asks.0 asks.2 asks.1 asks.3)

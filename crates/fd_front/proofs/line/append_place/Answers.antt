@@ -1,6 +1,6 @@
 use Rattle.std.proofs.Common.{codes, decimal}
 use Rattle.fd_front.specs.Lines.{place_text}
-use Rattle.fd_front.proofs.Pieces.{on_ok, four}
+use Rattle.list_laws.specs.Pieces.{on_ok, four}
 use Rattle.fd_front.proofs.line.append_place.Goals as goal
 
 pub returns : goal.returns

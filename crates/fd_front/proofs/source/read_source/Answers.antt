@@ -6,7 +6,8 @@ pub returns-in-Err : goal.returns-in-Err
 returns-in-Err c = by_parse c.args.text.now c.in-Err.stop c.in-Err.ensures
 
 pub returns-in-Err-resolved : goal.returns-in-Err-resolved
-returns-in-Err-resolved c = by_program c.args.text.now c.in-Ok.found.0 c.in-Ok.found.1 c.in-Err-resolved.stop c.in-Ok.ensures c.in-Err-resolved.ensures
+returns-in-Err-resolved c = by_program c.args.text.now c.in-Ok.found.0 c.in-Ok.found.1 c.in-Err-resolved.stop c.in-Ok.ensures
+    c.in-Err-resolved.ensures
 
 pub returns-in-Ok-resolved : goal.returns-in-Ok-resolved
 returns-in-Ok-resolved c = record {

@@ -11,4 +11,5 @@ returns-else-change-from c =
     let w = c.args.change.now in
     let s = c.args.store.now in
     let beyond : pos (length (list_at s w.array)) <ℤ w.subscript = omega (arith, ints) in
-    not_written s w.array (place_of w.subscript) (changed w.operator (element s w.array w.subscript) w.value) (place_from w.subscript _ beyond)
+    not_written s w.array (place_of w.subscript) (changed w.operator (element s w.array w.subscript) w.value)
+    (place_from w.subscript _ beyond)

@@ -8,5 +8,6 @@ loop-before-init c = lines_none c.args.text.now
 
 pub loop-before-preserved : goal.loop-before-preserved
 loop-before-preserved c =
-    lines_more (number_at c.args.rule c.args.seed c.args.size) c.args.text.now c.loop-before.text c.append_line.new.text c.loop-before.before c.number-number.result
+    lines_more (number_at c.args.rule c.args.seed c.args.size) c.args.text.now c.loop-before.text c.append_line.new.text
+    c.loop-before.before c.number-number.result
     c.loop-before.invariant c.number-number.ensures c.in_ok-append_line.ensures

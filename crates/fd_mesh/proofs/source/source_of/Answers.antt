@@ -1,6 +1,7 @@
 use Rattle.std.proofs.Common.{ℕ, List, [], ◌∷◌, ◌++◌, ◌∙◌, codes, ap, sym}
 use Rattle.fd_mesh.specs.Source.{joined, sizes, declarations, sweeps, reductions}
-use Rattle.fd_mesh.proofs.Pieces.{five, source_in_parts}
+use Rattle.list_laws.specs.Pieces.{five}
+use Rattle.fd_mesh.proofs.Pieces.{source_in_parts}
 use Rattle.fd_mesh.proofs.source.source_of.Goals as goal
 
 pub returns : goal.returns

@@ -15,4 +15,5 @@ returns-then-eq c =
     let tested : bytes_eq file.name c.args.name.now ≡ true = search rules in
     ap (λ (n : ℕ). slice_set items at (record file { faults = n })) c.one_more-file.ensures
     ∙ ap (λ (f : MemoryFile). slice_set items at (marked f)) (sym is)
-    ∙ changed_at marked items c.args.files.now.items at file c.args.name.now here (ap (λ (f : MemoryFile). bytes_eq f.name c.args.name.now) is ∙ tested) c.loop-place.invariant.left
+    ∙ changed_at marked items c.args.files.now.items at file c.args.name.now here
+    (ap (λ (f : MemoryFile). bytes_eq f.name c.args.name.now) is ∙ tested) c.loop-place.invariant.left

@@ -14,4 +14,5 @@ returns-then-eq c =
     let is : get_or items at file ≡ file = search rules in
     let tested : bytes_eq file.name c.args.name.now ≡ true = search rules in
     ap (λ (f : MemoryFile). slice_set items at (refilled c.args.bytes f)) (sym is)
-    ∙ changed_at (refilled c.args.bytes) items c.args.files.now.items at file c.args.name.now here (ap (λ (f : MemoryFile). bytes_eq f.name c.args.name.now) is ∙ tested) c.loop-place.invariant.left
+    ∙ changed_at (refilled c.args.bytes) items c.args.files.now.items at file c.args.name.now here
+    (ap (λ (f : MemoryFile). bytes_eq f.name c.args.name.now) is ∙ tested) c.loop-place.invariant.left

@@ -13,4 +13,5 @@ returns-in-None c =
 pub returns-in-Some : goal.returns-in-Some
 returns-in-Some c =
     subst (λ (e : SourceStop). IsAnswer c.args.tokens.now c.args.end (Err e)) (sym c.deep_stop.ensures)
-    (answer_deep c.args.tokens.now c.args.end c.in-Some.deep c.index-tokens-deep.result c.index-tokens-deep.result c.parse_any-found-in-Some.result c.in-Some.ensures (sym c.index-tokens-deep.is) c.parse_any-found-in-Some.ensures)
+    (answer_deep c.args.tokens.now c.args.end c.in-Some.deep c.index-tokens-deep.result c.index-tokens-deep.result
+    c.parse_any-found-in-Some.result c.in-Some.ensures (sym c.index-tokens-deep.is) c.parse_any-found-in-Some.ensures)

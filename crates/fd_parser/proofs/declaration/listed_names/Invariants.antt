@@ -6,7 +6,8 @@ use Rattle.fd_parser.proofs.declaration.listed_names.Given as goal
 abbrev pub invariant-loop-parser : goal.invariant-loop-parser
 invariant-loop-parser l = record {
   shrinks : length l.parser.rest.now ≤ length l.fn.parser.rest.now;
-  reads : (k : List Listed → State) → run l.fn.parser.rest.now (InItems ListedItem k) ≡ run l.parser.rest.now (Then (MoreItems ListedItem l.items k));
+  reads : (k : List Listed → State) → run l.fn.parser.rest.now (InItems ListedItem k) ≡ run l.parser.rest.now
+      (Then (MoreItems ListedItem l.items k));
 }
 
 abbrev pub decreases-loop-parser : goal.decreases-loop-parser

@@ -6,7 +6,8 @@ use Rattle.fd_parser.proofs.declaration.more_aligned.Given as goal
 abbrev pub invariant-loop-dummy : goal.invariant-loop-dummy
 invariant-loop-dummy l = record {
   shrinks : length l.parser.rest.now ≤ length l.fn.parser.rest.now;
-  reads : (k : List Listed → State) → run l.fn.parser.rest.now (Then (MoreItems (AlignedItem l.dummy) (l.fn.first ∷ []) k)) ≡ run l.parser.rest.now (Then (MoreItems (AlignedItem l.dummy) l.items k));
+  reads : (k : List Listed → State) → run l.fn.parser.rest.now (Then (MoreItems (AlignedItem l.dummy) (l.fn.first ∷ []) k))
+      ≡ run l.parser.rest.now (Then (MoreItems (AlignedItem l.dummy) l.items k));
 }
 
 abbrev pub decreases-loop-dummy : goal.decreases-loop-dummy

@@ -6,7 +6,8 @@ use Rattle.fd_parser.proofs.declaration.sized_names.Given as goal
 abbrev pub invariant-loop-parser : goal.invariant-loop-parser
 invariant-loop-parser l = record {
   shrinks : length l.parser.rest.now ≤ length l.fn.parser.rest.now;
-  reads : (k : List SizedName → State) → run l.fn.parser.rest.now (InItems SizedItem k) ≡ run l.parser.rest.now (Then (MoreItems SizedItem l.items k));
+  reads : (k : List SizedName → State) → run l.fn.parser.rest.now (InItems SizedItem k) ≡ run l.parser.rest.now
+      (Then (MoreItems SizedItem l.items k));
 }
 
 abbrev pub decreases-loop-parser : goal.decreases-loop-parser

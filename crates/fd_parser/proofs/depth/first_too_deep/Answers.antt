@@ -9,15 +9,18 @@ loop-place-init c = record { shallow = nothing_deep; depth = c.none-depth.ensure
 pub returns-then-exceeded_by : goal.returns-then-exceeded_by
 returns-then-exceeded_by c =
     let token = c.index-tokens-place in
-    deep_here c.args.tokens.now c.loop-place.place token.result c.loop-place.depth (omega arith) token.is c.loop-place.invariant.shallow c.loop-place.invariant.depth
+    deep_here c.args.tokens.now c.loop-place.place token.result c.loop-place.depth (omega arith) token.is c.loop-place.invariant.shallow
+    c.loop-place.invariant.depth
     (ap (too_deep c.loop-place.depth) (sym c.sort_of-sort.ensures) ∙ sym c.exceeded_by.ensures ∙ c.if-exceeded_by.true)
 
 pub loop-place-preserved : goal.loop-place-preserved
 loop-place-preserved c =
     let token = c.index-tokens-place in
     record {
-      shallow = still_here c.args.tokens.now c.loop-place.place token.result c.loop-place.depth (omega arith) token.is c.loop-place.invariant.shallow c.loop-place.invariant.depth
+      shallow = still_here c.args.tokens.now c.loop-place.place token.result c.loop-place.depth (omega arith) token.is
+          c.loop-place.invariant.shallow c.loop-place.invariant.depth
           (ap (too_deep c.loop-place.depth) (sym c.sort_of-sort.ensures) ∙ sym c.exceeded_by.ensures ∙ c.if-exceeded_by.false);
       depth = c.next-depth.ensures ∙ ap (next_depth c.loop-place.depth) c.sort_of-sort.ensures
-          ∙ next_here c.args.tokens.now c.loop-place.place token.result c.loop-place.depth (omega arith) token.is c.loop-place.invariant.depth;
+          ∙ next_here c.args.tokens.now c.loop-place.place token.result c.loop-place.depth (omega arith) token.is
+          c.loop-place.invariant.depth;
     }

@@ -5,7 +5,8 @@ use Rattle.fd_grammar.specs.Machine.{State, Head, run}
 use Rattle.fd_parser.proofs.program.head.Given as goal
 
 abbrev pub invariant-loop-parser : goal.invariant-loop-parser
-invariant-loop-parser l = (k : List Declaration → List Statement → State) → run l.fn.parser.rest.now (Head [] [] k) ≡ run l.parser.rest.now (Head l.declarations l.statements k)
+invariant-loop-parser l = (k : List Declaration → List Statement → State) → run l.fn.parser.rest.now (Head [] [] k)
+    ≡ run l.parser.rest.now (Head l.declarations l.statements k)
 
 abbrev pub decreases-loop-parser : goal.decreases-loop-parser
 decreases-loop-parser l = length l.parser.rest.now

@@ -12,7 +12,8 @@ decreases-repeated l = 2 * length l.parser.now.rest.now + 2
 abbrev pub invariant-body-loop-parser : goal.invariant-body-loop-parser
 invariant-body-loop-parser l = record {
   shrinks : length l.parser.rest.now ≤ length l.fn.parser.rest.now;
-  reads : (c : Closer) (k : List Statement → State) → run l.fn.parser.rest.now (Body c l.fn.before k) ≡ run l.parser.rest.now (Body c l.statements k);
+  reads : (c : Closer) (k : List Statement → State) → run l.fn.parser.rest.now (Body c l.fn.before k) ≡ run l.parser.rest.now
+      (Body c l.statements k);
 }
 
 abbrev pub decreases-body-loop-parser : goal.decreases-body-loop-parser

@@ -6,6 +6,7 @@ pub loop-item-preserved : goal.loop-item-preserved
 loop-item-preserved c = record {
   scope = fold_step after_array c.loop-item.scope c.enter_array.new.scope _ c.args.list.now c.loop-item.item-index c.item-item.result
       c.loop-item-test.true c.item-item.is c.in_ok-enter_array.ensures.scope c.loop-item.invariant.scope;
-  noted = along_step after_array (array_faults c.args.loops.now) c.loop-item.scope c.enter_array.new.scope c.loop-item.faults c.enter_array.new.faults _ c.args.list.now c.loop-item.item-index c.item-item.result
+  noted = along_step after_array (array_faults c.args.loops.now) c.loop-item.scope c.enter_array.new.scope c.loop-item.faults
+      c.enter_array.new.faults _ c.args.list.now c.loop-item.item-index c.item-item.result
       c.loop-item-test.true c.item-item.is c.in_ok-enter_array.ensures.scope c.in_ok-enter_array.ensures.noted c.loop-item.invariant.noted;
 }

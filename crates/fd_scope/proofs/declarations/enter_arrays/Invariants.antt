@@ -7,5 +7,6 @@ use Rattle.fd_scope.proofs.declarations.enter_arrays.Given as goal
 abbrev pub invariant-loop-item : goal.invariant-loop-item
 invariant-loop-item l = record {
   scope : fold after_array l.scope (drop l.item-index l.list) ≡ fold after_array l.fn.scope l.list;
-  noted : l.faults ++ along after_array (array_faults l.loops) l.scope (drop l.item-index l.list) ≡ l.fn.faults ++ along after_array (array_faults l.loops) l.fn.scope l.list;
+  noted : l.faults ++ along after_array (array_faults l.loops) l.scope (drop l.item-index l.list) ≡ l.fn.faults ++ along after_array
+      (array_faults l.loops) l.fn.scope l.list;
 }

@@ -7,5 +7,6 @@ use Rattle.fd_scope.proofs.declarations.enter_layouts.Given as goal
 abbrev pub invariant-loop-item : goal.invariant-loop-item
 invariant-loop-item l = record {
   scope : fold after_layout l.scope (drop l.item-index l.list) ≡ fold after_layout l.fn.scope l.list;
-  noted : l.faults ++ along after_layout (layout_faults l.loops) l.scope (drop l.item-index l.list) ≡ l.fn.faults ++ along after_layout (layout_faults l.loops) l.fn.scope l.list;
+  noted : l.faults ++ along after_layout (layout_faults l.loops) l.scope (drop l.item-index l.list) ≡ l.fn.faults ++ along after_layout
+      (layout_faults l.loops) l.fn.scope l.list;
 }

@@ -7,5 +7,6 @@ use Rattle.fd_scope.proofs.declarations.enter_outputs.Given as goal
 abbrev pub invariant-loop-item : goal.invariant-loop-item
 invariant-loop-item l = record {
   scope : fold after_output l.scope (drop l.item-index l.list) ≡ fold after_output l.fn.scope l.list;
-  noted : l.faults ++ along after_output output_faults l.scope (drop l.item-index l.list) ≡ l.fn.faults ++ along after_output output_faults l.fn.scope l.list;
+  noted : l.faults ++ along after_output output_faults l.scope (drop l.item-index l.list) ≡ l.fn.faults
+      ++ along after_output output_faults l.fn.scope l.list;
 }

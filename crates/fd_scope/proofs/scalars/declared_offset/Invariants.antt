@@ -5,5 +5,6 @@ use Rattle.fd_scope.proofs.scalars.declared_offset.Given as goal
 abbrev pub invariant-loop-term : goal.invariant-loop-term
 invariant-loop-term l = record {
   value : offset_value l.names l.here l.total (drop l.term-index l.terms) ≡ offset_value l.names l.here (Some (pos 0)) l.terms;
-  noted : l.faults ++ offset_faults l.names l.here l.loops l.total (drop l.term-index l.terms) ≡ l.fn.faults ++ offset_faults l.names l.here l.loops (Some (pos 0)) l.terms;
+  noted : l.faults ++ offset_faults l.names l.here l.loops l.total (drop l.term-index l.terms) ≡ l.fn.faults
+      ++ offset_faults l.names l.here l.loops (Some (pos 0)) l.terms;
 }

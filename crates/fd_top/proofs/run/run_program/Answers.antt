@@ -1,37 +1,25 @@
-use Rattle.std.proofs.Common.{map, string_bytes}
-use Rattle.fd_top.specs.Outcomes.{reading}
-use Rattle.fd_top.specs.Answers.{left}
-use Rattle.fd_top.specs.Threads.{run_usage_line, asked_to_run, RunsOnThreads, IsCut}
-use Rattle.fd_top.proofs.Answered.{complete, ran_right, threads_status}
+use Rattle.fd_top.specs.Answers.{texts}
+use Rattle.fd_top.specs.Threads.{IsCut, RunsOnThreads, asked_to_run, run_usage_line}
+use Rattle.fd_top.proofs.Answered.{complete, ran_right, sound, tells, threads_status}
 use Rattle.fd_top.proofs.Heading.{headline}
 use Rattle.fd_top.proofs.run.run_program.Goals as goal
 
+pub run-requires-clause-request : goal.run-requires-clause-request
+run-requires-clause-request g c = λ lifetimes lived.
+    let asking = c.requested_to_run-request.ensures in
+    sound c.requested_to_run-request.result asking.some_nodes asking.few_nodes asking.range
+
+pub returns-clause-answer : goal.returns-clause-answer
+returns-clause-answer g c =
+    let asking = c.requested_to_run-request.ensures in
+    let request = asked_to_run (texts c.args.words.now) in
+    c.run.ensures.answer request (tells request c.requested_to_run-request.result asking.taken asking.refused)
+
 pub returns-clause-complete : goal.returns-clause-complete
-returns-clause-complete g c =
-    let request = asked_to_run (map string_bytes c.args.words.now) in
-    let files = c.args.files.now in
-    let out = c.args.out.now in
-    let r = reading (g.F.Files.contents files) (g.F.Files.faults files) (g.F.Files.faults c.run.new.files) in
-    complete run_usage_line RunsOnThreads threads_status request r (IsCut request r) c.run.result
-    (left (g.S.Sink.faults out) (g.S.Sink.written out) c.args.mail.now) (left (g.S.Sink.faults c.run.new.out) (g.S.Sink.written c.run.new.out) c.run.new.mail)
-    c.run.ensures.answer
+returns-clause-complete g c = complete run_usage_line RunsOnThreads threads_status IsCut _ _ _ _ _ (returns-clause-answer g c)
 
 pub returns-clause-ran : goal.returns-clause-ran
-returns-clause-ran g c =
-    let request = asked_to_run (map string_bytes c.args.words.now) in
-    let files = c.args.files.now in
-    let out = c.args.out.now in
-    let r = reading (g.F.Files.contents files) (g.F.Files.faults files) (g.F.Files.faults c.run.new.files) in
-    ran_right run_usage_line RunsOnThreads threads_status request r (IsCut request r) c.run.result
-    (left (g.S.Sink.faults out) (g.S.Sink.written out) c.args.mail.now) (left (g.S.Sink.faults c.run.new.out) (g.S.Sink.written c.run.new.out) c.run.new.mail)
-    c.run.ensures.answer
+returns-clause-ran g c = ran_right run_usage_line RunsOnThreads threads_status IsCut _ _ _ _ _ (returns-clause-answer g c)
 
 pub returns-clause-headline : goal.returns-clause-headline
-returns-clause-headline g c =
-    let request = asked_to_run (map string_bytes c.args.words.now) in
-    let files = c.args.files.now in
-    let out = c.args.out.now in
-    let r = reading (g.F.Files.contents files) (g.F.Files.faults files) (g.F.Files.faults c.run.new.files) in
-    let old = left (g.S.Sink.faults out) (g.S.Sink.written out) c.args.mail.now in
-    let new = left (g.S.Sink.faults c.run.new.out) (g.S.Sink.written c.run.new.out) c.run.new.mail in
-    λ is_run. headline request r c.run.result old new (ran_right run_usage_line RunsOnThreads threads_status request r (IsCut request r) c.run.result old new c.run.ensures.answer is_run)
+returns-clause-headline g c = λ is_run. headline _ _ _ _ _ (returns-clause-ran g c is_run)

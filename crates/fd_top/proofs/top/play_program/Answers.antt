@@ -1,22 +1,22 @@
-use Rattle.std.proofs.Common.{map, string_bytes}
 use Rattle.fd_command.specs.Asked.{asked}
-use Rattle.fd_top.specs.Outcomes.{reading, usage_line, Plays}
-use Rattle.fd_top.specs.Answers.{left, Stays}
-use Rattle.fd_top.proofs.Answered.{complete, ran_right, plays_status}
+use Rattle.fd_top.specs.Outcomes.{Plays, usage_line}
+use Rattle.fd_top.specs.Answers.{PlayStays, texts}
+use Rattle.fd_top.proofs.Answered.{complete, plays_status, ran_right, sound, tells}
 use Rattle.fd_top.proofs.top.play_program.Goals as goal
 
+pub play-requires : goal.play-requires
+play-requires g c =
+    let asking = c.requested-request.ensures in
+    sound c.requested-request.result asking.some_nodes asking.few_nodes asking.range
+
+pub returns-clause-answer : goal.returns-clause-answer
+returns-clause-answer g c =
+    let asking = c.requested-request.ensures in
+    let request = asked (texts c.args.words.now) in
+    c.play.ensures.answer request (tells request c.requested-request.result asking.taken asking.refused)
+
 pub returns-clause-complete : goal.returns-clause-complete
-returns-clause-complete g c =
-    let files = c.args.files.now in
-    let out = c.args.out.now in
-    complete usage_line Plays plays_status (asked (map string_bytes c.args.words.now)) (reading (g.F.Files.contents files) (g.F.Files.faults files) (g.F.Files.faults c.play.new.files)) Stays c.play.result
-    (left (g.S.Sink.faults out) (g.S.Sink.written out) c.args.played.now) (left (g.S.Sink.faults c.play.new.out) (g.S.Sink.written c.play.new.out) c.play.new.played)
-    c.play.ensures.answer
+returns-clause-complete g c = complete usage_line Plays plays_status PlayStays _ _ _ _ _ (returns-clause-answer g c)
 
 pub returns-clause-ran : goal.returns-clause-ran
-returns-clause-ran g c =
-    let files = c.args.files.now in
-    let out = c.args.out.now in
-    ran_right usage_line Plays plays_status (asked (map string_bytes c.args.words.now)) (reading (g.F.Files.contents files) (g.F.Files.faults files) (g.F.Files.faults c.play.new.files)) Stays c.play.result
-    (left (g.S.Sink.faults out) (g.S.Sink.written out) c.args.played.now) (left (g.S.Sink.faults c.play.new.out) (g.S.Sink.written c.play.new.out) c.play.new.played)
-    c.play.ensures.answer
+returns-clause-ran g c = ran_right usage_line Plays plays_status PlayStays _ _ _ _ _ (returns-clause-answer g c)

@@ -7,4 +7,5 @@ pub unreachable-requires : goal.unreachable-requires
 unreachable-requires c = no_negate c.in-Negate.at c.in-Negate.inner (subst IsTerm c.in-Negate.is c.requires)
 
 pub unreachable-requires-in-Binary : goal.unreachable-requires-in-Binary
-unreachable-requires-in-Binary c = no_binary c.in-Binary.op c.in-Binary.at c.in-Binary.left c.in-Binary.right (subst IsTerm c.in-Binary.is c.requires)
+unreachable-requires-in-Binary c = no_binary c.in-Binary.op c.in-Binary.at c.in-Binary.left c.in-Binary.right
+    (subst IsTerm c.in-Binary.is c.requires)

@@ -6,7 +6,9 @@ use Rattle.fd_trace.proofs.turns.passed_value.Goals as goal
 
 pub returns : goal.returns
 returns c = record {
-  value = outcome_value (scalar_value c.args.variables.now c.args.scalar.now) (scalar_faults c.args.variables.now c.args.scalar.now) c.value.result c.value.ensures;
+  value = outcome_value (scalar_value c.args.variables.now c.args.scalar.now) (scalar_faults c.args.variables.now c.args.scalar.now)
+      c.value.result c.value.ensures;
   small = small_outcome c.args.variables.now c.args.scalar.now c.value.result c.requires c.value.ensures;
-  way = outcome_way c.args.left.now (scalar_value c.args.variables.now c.args.scalar.now) (scalar_faults c.args.variables.now c.args.scalar.now) c.value.result c.value.ensures;
+  way = outcome_way c.args.left.now (scalar_value c.args.variables.now c.args.scalar.now)
+      (scalar_faults c.args.variables.now c.args.scalar.now) c.value.result c.value.ensures;
 }

@@ -10,7 +10,8 @@ use Rattle.fd_trace.proofs.Ways.{goes_on, goes_stop, done}
 use Rattle.fd_trace.proofs.turns.run_loop.Goals as goal
 
 pub returns-in-Err-clause-way : goal.returns-in-Err-clause-way
-returns-in-Err-clause-way c = goes_stop (Unit {0}) (Unit {0}) c.args.left.now c.begin.new.self c.begin.new.self c.in-Err.stop (Begins c.args.site.now.at ∷ []) _ c.in-Err.ensures
+returns-in-Err-clause-way c = goes_stop (Unit {0}) (Unit {0}) c.args.left.now c.begin.new.self c.begin.new.self c.in-Err.stop
+    (Begins c.args.site.now.at ∷ []) _ c.in-Err.ensures
 
 pub returns-in-Err-passed_value-clause-way : goal.returns-in-Err-passed_value-clause-way
 returns-in-Err-passed_value-clause-way c =
@@ -48,7 +49,8 @@ returns-clause-way c =
     let is_low = to_z-of_z w64 c.in-Ok-passed_value.low fits_low ∙ c.in-Ok-passed_value.ensures.value in
     let is_high = to_z-of_z w64 c.in-Ok-passed_value-2.high fits_high ∙ c.in-Ok-passed_value-2.ensures.value in
     let same : work_way vs site (to_z w64 (of_z w64 c.in-Ok-passed_value.low)) (to_z w64 (of_z w64 c.in-Ok-passed_value-2.high)) ≡ work =
-    ap (λ z. work_way vs site z (to_z w64 (of_z w64 c.in-Ok-passed_value-2.high))) is_low ∙ ap (work_way vs site (scalar_value vs site.low)) is_high in
+    ap (λ z. work_way vs site z (to_z w64 (of_z w64 c.in-Ok-passed_value-2.high))) is_low
+    ∙ ap (work_way vs site (scalar_value vs site.low)) is_high in
     goes_on {X = Unit {0}} c.args.left.now mid mid c.append.result (Begins site.at ∷ []) (low ++ (high ++ work)) c.in-Ok.ensures
     (goes_on {X = Unit {0}} mid mid mid c.append.result low (high ++ work) c.in-Ok-passed_value.ensures.way
     (goes_on {X = Unit {0}} mid mid mid c.append.result high work c.in-Ok-passed_value-2.ensures.way

@@ -35,8 +35,10 @@ decreases-all_turns-loop-number l = natural (l.high -ℤ l.number +ℤ pos 1)
 abbrev pub invariant-walk-loop-behind : goal.invariant-walk-loop-behind
 invariant-walk-loop-behind l = record {
   shorter : length l.behind ≤ length l.statements;
-  way : along l.left (way_of l.checked l.variables 0 l.more l.behind) ≡ along l.fn.left (way_of l.checked l.variables 0 l.count l.statements);
-  steps : l.steps ++ steps_of l.checked.sites l.variables 0 l.more l.behind ≡ l.fn.steps ++ steps_of l.checked.sites l.variables 0 l.count l.statements;
+  way : along l.left (way_of l.checked l.variables 0 l.more l.behind) ≡ along l.fn.left
+      (way_of l.checked l.variables 0 l.count l.statements);
+  steps : l.steps ++ steps_of l.checked.sites l.variables 0 l.more l.behind ≡ l.fn.steps ++ steps_of l.checked.sites l.variables 0 l.count
+      l.statements;
 }
 
 abbrev pub decreases-walk-loop-behind : goal.decreases-walk-loop-behind

@@ -14,7 +14,8 @@ loop-p-preserved c =
         | inl a ↦ c.loop-p.invariant.1 k v a
         | inr b ↦
             let i : k ≡ c.loop-p.p = b.0 ∙ c.loop-p.invariant.0 in
-            count_again c.args.flags.now c.loop-p.p k v c.in_ok-node.node i b.1 c.in_ok-node.ensures.face c.in_ok-node.ensures.flag c.in_ok-node.ensures.pool
+            count_again c.args.flags.now c.loop-p.p k v c.in_ok-node.node i b.1 c.in_ok-node.ensures.face c.in_ok-node.ensures.flag
+            c.in_ok-node.ensures.pool
       ],
     )
 

@@ -11,22 +11,42 @@ loop-node-preserved g c =
     let p : ℕ = slice_index c.args.turns.now c.loop-node.node-index in (
       c.in-Ok.ensures.nodes ∙ i.0,
       λ plan is h. c.in-Ok.ensures.at plan is (i.1 plan is h),
-      subst (λ (z : List ℕ). Plays g.N.Phased.view z c.args.self.now c.moved_by.new.self) (sym (take_next g.N.Phased.view c.args.turns.now c.loop-node.node-index c.loop-node-test.true))
-          (plays_last g.N.Phased.view (take c.loop-node.node-index c.args.turns.now) p c.args.self.now c.loop-node.self c.moved_by.new.self i.2
-          (turn_by g.N.Phased.view c.in-Ok.field-0 p c.loop-node.self c.moved_by.new.self c.in-Ok.ensures.moves c.in-Ok.ensures.same c.in-Ok.ensures.still)),
+      subst (λ (z : List ℕ). Plays g.N.Phased.view z c.args.self.now c.moved_by.new.self)
+          (sym (take_next g.N.Phased.view c.args.turns.now c.loop-node.node-index c.loop-node-test.true))
+          (plays_last g.N.Phased.view (take c.loop-node.node-index c.args.turns.now) p c.args.self.now c.loop-node.self
+          c.moved_by.new.self i.2
+          (turn_by g.N.Phased.view c.in-Ok.field-0 p c.loop-node.self c.moved_by.new.self c.in-Ok.ensures.moves c.in-Ok.ensures.same
+          c.in-Ok.ensures.still)),
       λ plan is h.
           c.in-Ok.ensures.script plan is (i.1 plan is h)
           ∙ ap (moves_by (g.N.Phased.rows plan) (p ∷ [])) (i.3 plan is h)
-          ∙ sym (ap (λ (z : List ℕ). moves_by (g.N.Phased.rows plan) z c.args.self.now.moved) (take_next g.N.Phased.view c.args.turns.now c.loop-node.node-index c.loop-node-test.true)
+          ∙ sym (ap (λ (z : List ℕ). moves_by (g.N.Phased.rows plan) z c.args.self.now.moved)
+          (take_next g.N.Phased.view c.args.turns.now c.loop-node.node-index c.loop-node-test.true)
           ∙ moves_append (g.N.Phased.rows plan) (take c.loop-node.node-index c.args.turns.now) (p ∷ []) c.args.self.now.moved),
     )
 
 pub overflow_sub-result : goal.overflow_sub-result
-overflow_sub-result g c = omega (arith, c.moves-before.ensures, c.moves.ensures, plays_grow g.N.Phased.view _ c.args.self.now c.loop-node.self c.loop-node.invariant.2)
+overflow_sub-result g c = omega (
+  arith,
+  c.moves-before.ensures,
+  c.moves.ensures,
+  plays_grow g.N.Phased.view _ c.args.self.now
+      c.loop-node.self c.loop-node.invariant.2,
+)
 
 pub returns-clause-count : goal.returns-clause-count
-returns-clause-count g c = omega (arith, c.moves-before.ensures, c.moves.ensures, plays_grow g.N.Phased.view _ c.args.self.now c.loop-node.self c.loop-node.invariant.2)
+returns-clause-count g c = omega (
+  arith,
+  c.moves-before.ensures,
+  c.moves.ensures,
+  plays_grow g.N.Phased.view _ c.args.self.now
+      c.loop-node.self c.loop-node.invariant.2,
+)
 
 pub returns-in-Err-clause-stops : goal.returns-in-Err-clause-stops
-returns-in-Err-clause-stops g c =
-    (c.loop-node.node-index, (c.loop-node.self, c.loop-node.invariant.2, c.in-Err.ensures.err), λ plan is h. c.in-Err.ensures.err.moved ∙ c.loop-node.invariant.3 plan is h)
+returns-in-Err-clause-stops g c = (
+  c.loop-node.node-index,
+  (c.loop-node.self, c.loop-node.invariant.2, c.in-Err.ensures.err),
+  λ plan is h. c.in-Err.ensures.err.moved
+      ∙ c.loop-node.invariant.3 plan is h,
+)

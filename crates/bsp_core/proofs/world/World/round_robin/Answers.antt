@@ -19,7 +19,8 @@ overflow_sub-result g c =
 pub returns-in-Ok-eq0-clause-plays : goal.returns-in-Ok-eq0-clause-plays
 returns-in-Ok-eq0-clause-plays g c = (
   suc c.rounds.invariant.2.0,
-  round_next g.N.Phased.view c.rounds.invariant.2.0 (length c.args.self.now.nodes) (length c.rounds.self.nodes) c.args.self.now c.rounds.self c.sweep.new.self
+  round_next g.N.Phased.view c.rounds.invariant.2.0 (length c.args.self.now.nodes) (length c.rounds.self.nodes) c.args.self.now
+      c.rounds.self c.sweep.new.self
       c.rounds.invariant.2.1 c.rounds.invariant.0 c.in-Ok-eq0.ensures.plays,
 )
 
@@ -35,8 +36,10 @@ returns-in-Ok-eq0-clause-count g c =
 
 pub returns-in-Ok-eq0-clause-over : goal.returns-in-Ok-eq0-clause-over
 returns-in-Ok-eq0-clause-over g c plan is h =
-    done_over g.N.Phased.view (g.N.Phased.rows plan) (g.N.Phased.holds plan) (g.N.Phased.count plan) (g.met.N.Phased.rows_meet plan is) (g.met.N.Phased.rows_fall plan is) c.sweep.new.self
-    (c.in-Ok-eq0.ensures.at plan is (c.rounds.invariant.1 plan is h)) (g.met.N.Phased.few plan is).0 (c.in-Ok-eq0.ensures.ends c.in-Ok-eq0.field-0-test)
+    done_over g.N.Phased.view (g.N.Phased.rows plan) (g.N.Phased.holds plan) (g.N.Phased.count plan) (g.met.N.Phased.rows_meet plan is)
+    (g.met.N.Phased.rows_fall plan is) c.sweep.new.self
+    (c.in-Ok-eq0.ensures.at plan is (c.rounds.invariant.1 plan is h)) (g.met.N.Phased.few plan is).0
+    (c.in-Ok-eq0.ensures.ends c.in-Ok-eq0.field-0-test)
 
 pub rounds-preserved : goal.rounds-preserved
 rounds-preserved g c =
@@ -46,11 +49,13 @@ rounds-preserved g c =
       λ plan is h. c.in-Ok.ensures.at plan is (c.rounds.invariant.1 plan is h),
       (
         suc i.0,
-        round_next g.N.Phased.view i.0 n (length c.rounds.self.nodes) c.args.self.now c.rounds.self c.sweep.new.self i.1 c.rounds.invariant.0 c.in-Ok.ensures.plays,
+        round_next g.N.Phased.view i.0 n (length c.rounds.self.nodes) c.args.self.now c.rounds.self c.sweep.new.self i.1
+            c.rounds.invariant.0 c.in-Ok.ensures.plays,
         omega (arith, c.in-Ok.ensures.grows, i.2, c.in-Ok.field-0-is),
         λ plan is h.
             c.in-Ok.ensures.script plan is (c.rounds.invariant.1 plan is h)
-            ∙ round_more (g.N.Phased.rows plan) i.0 n (length c.rounds.self.nodes) c.args.self.now.moved c.rounds.self.moved c.rounds.invariant.0 (i.3 plan is h),
+            ∙ round_more (g.N.Phased.rows plan) i.0 n (length c.rounds.self.nodes) c.args.self.now.moved c.rounds.self.moved
+            c.rounds.invariant.0 (i.3 plan is h),
       ),
     )
 
@@ -61,8 +66,10 @@ returns-in-Ok-eq0-clause-script g c plan is h =
     let n = length c.args.self.now.nodes in
     let over = c.in-Ok-eq0.ensures.at plan is (i.1 plan is h) in
     let more = plays_grow g.N.Phased.view _ c.rounds.self c.sweep.new.self c.in-Ok-eq0.ensures.plays in
-    rounds_over g.N.Phased.view (g.N.Phased.rows plan) (g.N.Phased.holds plan) (g.N.Phased.count plan) (g.met.N.Phased.rows_meet plan is) (g.met.N.Phased.rows_fall plan is) c.sweep.new.self over
-    (c.in-Ok-eq0.ensures.ends c.in-Ok-eq0.field-0-test) n (c.in-Ok-eq0.ensures.nodes ∙ i.0) (suc k) (c.moves.result - c.moves-before.result + 1) c.args.self.now.moved
+    rounds_over g.N.Phased.view (g.N.Phased.rows plan) (g.N.Phased.holds plan) (g.N.Phased.count plan) (g.met.N.Phased.rows_meet plan is)
+    (g.met.N.Phased.rows_fall plan is) c.sweep.new.self over
+    (c.in-Ok-eq0.ensures.ends c.in-Ok-eq0.field-0-test) n (c.in-Ok-eq0.ensures.nodes ∙ i.0) (suc k)
+    (c.moves.result - c.moves-before.result + 1) c.args.self.now.moved
     (omega (arith, more, i.2.2, c.moves-before.ensures, c.moves.ensures))
     (c.in-Ok-eq0.ensures.script plan is (i.1 plan is h)
     ∙ round_more (g.N.Phased.rows plan) k n (length c.rounds.self.nodes) c.args.self.now.moved c.rounds.self.moved i.0 (i.2.3 plan is h))

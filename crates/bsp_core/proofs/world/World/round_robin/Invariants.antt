@@ -6,10 +6,13 @@ use Rattle.bsp_core.proofs.world.World.round_robin.Given as goal
 abbrev pub invariant-rounds : goal.invariant-rounds
 invariant-rounds g l =
     (length l.self.nodes ≡ length l.initial.self.nodes)
-    × ((plan : g.N.Phased.Plan) → g.N.Phased.IsPlan plan → IsInLockstep g.N.Phased.view (g.N.Phased.rows plan) (g.N.Phased.holds plan) (g.N.Phased.count plan) l.initial.self → IsInLockstep g.N.Phased.view (g.N.Phased.rows plan) (g.N.Phased.holds plan) (g.N.Phased.count plan) l.self)
+    × ((plan : g.N.Phased.Plan) → g.N.Phased.IsPlan plan → IsInLockstep g.N.Phased.view (g.N.Phased.rows plan) (g.N.Phased.holds plan)
+    (g.N.Phased.count plan) l.initial.self → IsInLockstep g.N.Phased.view (g.N.Phased.rows plan) (g.N.Phased.holds plan)
+    (g.N.Phased.count plan) l.self)
     × ((k : ℕ) × Plays g.N.Phased.view (rounds k (length l.initial.self.nodes)) l.initial.self l.self
     × (k + length l.initial.self.moved ≤ length l.self.moved)
-    × MovesBy g.N.Phased.view g.N.Phased.IsPlan g.N.Phased.count g.N.Phased.rows g.N.Phased.holds (rounds k (length l.initial.self.nodes)) l.initial.self l.self)
+    × MovesBy g.N.Phased.view g.N.Phased.IsPlan g.N.Phased.count g.N.Phased.rows g.N.Phased.holds (rounds k (length l.initial.self.nodes))
+    l.initial.self l.self)
 
 abbrev pub decreases-rounds : goal.decreases-rounds
 decreases-rounds g l = total (map g.N.Phased.view l.self.nodes)

@@ -29,8 +29,10 @@ returns-in-Ok-eq0-clause-count g c =
 
 pub returns-in-Ok-eq0-clause-over : goal.returns-in-Ok-eq0-clause-over
 returns-in-Ok-eq0-clause-over g c plan is h =
-    done_over g.N.Phased.view (g.N.Phased.rows plan) (g.N.Phased.holds plan) (g.N.Phased.count plan) (g.met.N.Phased.rows_meet plan is) (g.met.N.Phased.rows_fall plan is) c.first_from.new.self
-    (c.in-Ok-eq0.ensures.at plan is (c.draws.invariant.1 plan is h)) (g.met.N.Phased.few plan is).0 (c.in-Ok-eq0.ensures.ends c.in-Ok-eq0.field-0-test)
+    done_over g.N.Phased.view (g.N.Phased.rows plan) (g.N.Phased.holds plan) (g.N.Phased.count plan) (g.met.N.Phased.rows_meet plan is)
+    (g.met.N.Phased.rows_fall plan is) c.first_from.new.self
+    (c.in-Ok-eq0.ensures.at plan is (c.draws.invariant.1 plan is h)) (g.met.N.Phased.few plan is).0
+    (c.in-Ok-eq0.ensures.ends c.in-Ok-eq0.field-0-test)
 
 pub draws-preserved : goal.draws-preserved
 draws-preserved g c =
@@ -39,8 +41,10 @@ draws-preserved g c =
       λ plan is h. c.in-Ok.ensures.at plan is (c.draws.invariant.1 plan is h),
       (
         c.draws.invariant.2.0 ++ m.0 ∷ [],
-        draws_more g.N.Phased.view c.args.seed c.draws.invariant.2.0 c.args.self.now c.draws.self c.first_from.new.self c.draws.state c.seed_after-state.result c.count-n.result c.drawn_of-from.result m.0
-            c.draws.invariant.2.1 (c.count-n.ensures.is ∙ sym c.draws.invariant.0) c.seed_after-state.ensures c.drawn_of-from.ensures.is m.1 m.2,
+        draws_more g.N.Phased.view c.args.seed c.draws.invariant.2.0 c.args.self.now c.draws.self c.first_from.new.self c.draws.state
+            c.seed_after-state.result c.count-n.result c.drawn_of-from.result m.0
+            c.draws.invariant.2.1 (c.count-n.ensures.is ∙ sym c.draws.invariant.0) c.seed_after-state.ensures c.drawn_of-from.ensures.is
+            m.1 m.2,
       ),
       (
         suc c.draws.invariant.3.0,
@@ -48,11 +52,15 @@ draws-preserved g c =
         omega (arith, move_grows g.N.Phased.view m.0 c.draws.self c.first_from.new.self m.2, c.draws.invariant.3.2),
         λ plan is h.
             let in_step = c.draws.invariant.1 plan is h in
-            let size = sym (n_is g.N.Phased.view (g.N.Phased.rows plan) (g.N.Phased.holds plan) (g.N.Phased.count plan) (g.met.N.Phased.rows_meet plan is) c.draws.self.nodes c.draws.self.sent c.draws.self.taken c.draws.self.moved in_step) in
-            draw_is g.N.Phased.view (g.N.Phased.rows plan) (g.N.Phased.holds plan) (g.N.Phased.count plan) (g.met.N.Phased.rows_meet plan is) (g.met.N.Phased.rows_fall plan is) c.draws.self in_step
+            let size = sym (n_is g.N.Phased.view (g.N.Phased.rows plan) (g.N.Phased.holds plan) (g.N.Phased.count plan)
+            (g.met.N.Phased.rows_meet plan is) c.draws.self.nodes c.draws.self.sent c.draws.self.taken c.draws.self.moved in_step) in
+            draw_is g.N.Phased.view (g.N.Phased.rows plan) (g.N.Phased.holds plan) (g.N.Phased.count plan)
+            (g.met.N.Phased.rows_meet plan is) (g.met.N.Phased.rows_fall plan is) c.draws.self in_step
             c.drawn_of-from.result m.0 c.first_from.new.self m.1 m.2
-            ∙ draw_more (g.N.Phased.rows plan) c.draws.invariant.3.0 (g.N.Phased.count plan) c.drawn_of-from.result c.args.seed c.draws.state c.args.self.now.moved c.draws.self.moved
-            (c.drawn_of-from.ensures.is ∙ ap (λ (z : ℕ). drawn z c.seed_after-state.result) (c.count-n.ensures.is ∙ sym c.draws.invariant.0 ∙ size) ∙ ap (drawn (g.N.Phased.count plan)) c.seed_after-state.ensures)
+            ∙ draw_more (g.N.Phased.rows plan) c.draws.invariant.3.0 (g.N.Phased.count plan) c.drawn_of-from.result c.args.seed
+            c.draws.state c.args.self.now.moved c.draws.self.moved
+            (c.drawn_of-from.ensures.is ∙ ap (λ (z : ℕ). drawn z c.seed_after-state.result) (c.count-n.ensures.is
+            ∙ sym c.draws.invariant.0 ∙ size) ∙ ap (drawn (g.N.Phased.count plan)) c.seed_after-state.ensures)
             c.draws.invariant.3.1 (c.draws.invariant.3.3 plan is h),
       ),
     )

@@ -16,4 +16,5 @@ returns c =
     let most = c.loop-to.auto.to-end in
     let least = c.loop-to-test.false in
     let last : c.loop-to.to ≡ 16 = omega (arith, most, least) in
-    row_opened m.queues m.seats.items c.args.from c.requires.row (subst (λ (k : ℕ). IsOpening m.queues m.seats.items c.args.from k) last c.loop-to.invariant)
+    row_opened m.queues m.seats.items c.args.from c.requires.row (subst (λ (k : ℕ). IsOpening m.queues m.seats.items c.args.from k) last
+    c.loop-to.invariant)

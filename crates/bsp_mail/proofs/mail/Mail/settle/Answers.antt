@@ -13,7 +13,12 @@ loop-n-preserved g c =
     let split : n ≡ 16 * (n / 16) + n % 16 = omega arith in
     let small : n % 16 < 16 = omega arith in
     elim c.if-from-to.branch [
-      | then-from-to w ↦ let e = w.settle_pair.ensures in rw w.self-is (e.queues ∙ i.0, settled_more _ _ _ _ n (n / 16) (n % 16) split small i.1 (subst (λ (k : Queues). IsShaped k w.settle_pair.new.self.seats.items) i.0 e.shape) e.same e.others e.prefix)
+      | then-from-to w ↦ let e = w.settle_pair.ensures in
+          rw w.self-is (
+            e.queues ∙ i.0,
+            settled_more _ _ _ _ n (n / 16) (n % 16) split small i.1
+                (subst (λ (k : Queues). IsShaped k w.settle_pair.new.self.seats.items) i.0 e.shape) e.same e.others e.prefix,
+          )
       | else-from-to w ↦ rw w.self-is (i.0, settled_skip _ _ _ n (n / 16) (n % 16) split small w.if-from-to.false i.1)
     ]
 

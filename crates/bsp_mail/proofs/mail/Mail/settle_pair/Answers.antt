@@ -7,7 +7,8 @@ use Rattle.bsp_mail.proofs.Settles.{lists_then, else_then}
 use Rattle.bsp_mail.proofs.mail.Mail.settle_pair.Goals as goal
 
 pub unite_ends-requires-clause-end : goal.unite_ends-requires-clause-end
-unite_ends-requires-clause-end g c e at = c.requires.opened.outs e (ap (λ l. slice_get l (below c.args.from c.args.to)) (sym (c.retire_end-heir.ensures.seats.outs c.args.from)) ∙ at)
+unite_ends-requires-clause-end g c e at = c.requires.opened.outs e (ap (λ l. slice_get l (below c.args.from c.args.to))
+    (sym (c.retire_end-heir.ensures.seats.outs c.args.from)) ∙ at)
 
 pub unite_ends-requires-clause-heir : goal.unite_ends-requires-clause-heir
 unite_ends-requires-clause-heir g c = let h = c.retire_end-heir.ensures.heir in (h.0, h.1, refl)

@@ -18,10 +18,22 @@ returns-clause-open g c =
     let was = op.out_ends c.args.to d peer (rw k at at_d) in
     let l = c.place_of.ensures in
     let room' : c.place_of.result < 240 = rw l (place_fits s.me c.args.to op.me peer) in
-    let line = slice_get_read c.args.queues.now.lines.items 240 c.place_of.result c.index-queue.result.now (sym op.lines) room' c.index-queue.ensures in
+    let line = slice_get_read c.args.queues.now.lines.items 240 c.place_of.result c.index-queue.result.now (sym op.lines) room'
+    c.index-queue.ensures in
     let e : End = record { peer = d.peer; pass = c.put.new.pass } in
-    let here : IsOutOf c.args.queues.now s.me c.args.to e = ((c.index-queue.result.now, rw l at line, c.put.ensures.pass), put_role _ _ _ _ c.put.ensures.put ∙ was.1) in
-    rw k (record { me = op.me; outs = length-set _ _ _ ∙ op.outs; ins = op.ins; lines = op.lines; out_ends = fits_set (λ q u. IsOutOf c.args.queues.now s.me q u) s.me s.outs.items c.args.to e peer here op.out_ends; in_ends = op.in_ends })
+    let here : IsOutOf c.args.queues.now s.me c.args.to e = (
+      (c.index-queue.result.now, rw l at line, c.put.ensures.pass),
+      put_role _ _ _ _ c.put.ensures.put ∙ was.1,
+    ) in
+    rw k (record {
+      me = op.me;
+      outs = length-set _ _ _ ∙ op.outs;
+      ins = op.ins;
+      lines = op.lines;
+      out_ends = fits_set (λ q u. IsOutOf c.args.queues.now s.me q u) s.me s.outs.items c.args.to e peer here op.out_ends;
+      in_ends =
+          op.in_ends;
+    })
 
 pub returns-clause-put : goal.returns-clause-put
 returns-clause-put g c =

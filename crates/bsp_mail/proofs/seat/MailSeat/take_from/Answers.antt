@@ -18,11 +18,24 @@ returns-clause-open g c =
     let was = op.in_ends c.args.from d peer (rw k at at_d) in
     let l = c.place_of.ensures in
     let room' : c.place_of.result < 240 = rw l (place_fits c.args.from s.me peer.0 (peer_back s.me c.args.from op.me peer)) in
-    let line = slice_get_read c.args.queues.now.lines.items 240 c.place_of.result c.index-queue.result.now (sym op.lines) room' c.index-queue.ensures in
+    let line = slice_get_read c.args.queues.now.lines.items 240 c.place_of.result c.index-queue.result.now (sym op.lines) room'
+    c.index-queue.ensures in
     let e : End = record { peer = d.peer; pass = c.take.new.pass } in
     let roles = take_role c.take.result (view_of d) (view_of e) c.take.ensures.take in
-    let here : IsInOf c.args.queues.now s.me c.args.from e = ((c.index-queue.result.now, rw l at line, c.take.ensures.pass), roles.0 ∙ was.1, roles.1 ∙ was.2) in
-    rw k (record { me = op.me; outs = op.outs; ins = length-set _ _ _ ∙ op.ins; lines = op.lines; out_ends = op.out_ends; in_ends = fits_set (λ q u. IsInOf c.args.queues.now s.me q u) s.me s.ins.items c.args.from e peer here op.in_ends })
+    let here : IsInOf c.args.queues.now s.me c.args.from e = (
+      (c.index-queue.result.now, rw l at line, c.take.ensures.pass),
+      roles.0
+          ∙ was.1,
+      roles.1 ∙ was.2,
+    ) in
+    rw k (record {
+      me = op.me;
+      outs = op.outs;
+      ins = length-set _ _ _ ∙ op.ins;
+      lines = op.lines;
+      out_ends = op.out_ends;
+      in_ends = fits_set (λ q u. IsInOf c.args.queues.now s.me q u) s.me s.ins.items c.args.from e peer here op.in_ends;
+    })
 
 pub returns-clause-take : goal.returns-clause-take
 returns-clause-take g c =

@@ -18,14 +18,26 @@ pub returns-in-Ok-clause-stepped : goal.returns-in-Ok-clause-stepped
 returns-in-Ok-clause-stepped g c =
     let s = c.args.self.now in
     let e = c.requires in
-    let t : DriveSeat g.row.N.Denot = record { node = c.take.new.self; mail = c.take_from.new.self; works = s.works; standing = s.standing } in
+    let t : DriveSeat g.row.N.Denot = record {
+      node = c.take.new.self;
+      mail = c.take_from.new.self;
+      works = s.works;
+      standing = s.standing;
+    } in
     has_taken g.N.Phased.view (WorksFor g.N.Phased.IsPlan g.N.Phased.count g.N.Phased.rows g.N.Phased.holds) s t
-    c.args.from c.in-Some.letter e.due e.other c.in-Ok.ensures.ok refl c.take_from.ensures.same c.take_from.ensures.others c.in-Some.ensures.take.1
+    c.args.from c.in-Some.letter e.due e.other c.in-Ok.ensures.ok refl c.take_from.ensures.same c.take_from.ensures.others
+    c.in-Some.ensures.take.1
 
 pub returns-in-Err-clause-stepped : goal.returns-in-Err-clause-stepped
 returns-in-Err-clause-stepped g c =
     let s = c.args.self.now in
     let e = c.requires in
-    let t : DriveSeat g.row.N.Denot = record { node = c.take.new.self; mail = c.take_from.new.self; works = s.works; standing = s.standing } in
+    let t : DriveSeat g.row.N.Denot = record {
+      node = c.take.new.self;
+      mail = c.take_from.new.self;
+      works = s.works;
+      standing = s.standing;
+    } in
     rw c.of.ensures (has_strayed_by g.N.Phased.view (WorksFor g.N.Phased.IsPlan g.N.Phased.count g.N.Phased.rows g.N.Phased.holds) s t
-    c.in-Err.fault c.args.from c.in-Some.letter e.due e.other c.in-Err.ensures.stray refl c.take_from.ensures.same c.take_from.ensures.others c.in-Some.ensures.take.1)
+    c.in-Err.fault c.args.from c.in-Some.letter e.due e.other c.in-Err.ensures.stray refl c.take_from.ensures.same
+    c.take_from.ensures.others c.in-Some.ensures.take.1)

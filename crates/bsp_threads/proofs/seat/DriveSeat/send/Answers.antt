@@ -13,11 +13,18 @@ returns-clause-stepped g c =
     let view = g.N.Phased.view in
     let works = WorksFor g.N.Phased.IsPlan g.N.Phased.count g.N.Phased.rows g.N.Phased.holds in
     let s = c.args.self.now in
-    let t : DriveSeat g.row.N.Denot = record { node = c.post-letter.new.self; mail = c.put.new.self; works = s.works; standing = s.standing } in
+    let t : DriveSeat g.row.N.Denot = record {
+      node = c.post-letter.new.self;
+      mail = c.put.new.self;
+      works = s.works;
+      standing = s.standing;
+    } in
     let e = c.requires in
     elim c.match-put.branch [
       | in-Ok w ↦ subst (λ (r : Result Step DriveFault). HasStepped view works s r t) (sym w.result-is)
-          (has_sent view works s t c.args.to c.post-letter.result e.due e.other c.post-letter.ensures refl c.put.ensures.same w.in-Ok.ensures.put)
+          (has_sent view works s t c.args.to c.post-letter.result e.due e.other c.post-letter.ensures refl c.put.ensures.same
+          w.in-Ok.ensures.put)
       | in-Err w ↦ subst (λ (r : Result Step DriveFault). HasStepped view works s r t) (sym w.result-is)
-          (has_not_sent view works s t c.args.to c.post-letter.result e.due c.post-letter.ensures refl c.put.ensures.same w.in-Err.ensures.put.1)
+          (has_not_sent view works s t c.args.to c.post-letter.result e.due c.post-letter.ensures refl c.put.ensures.same
+          w.in-Err.ensures.put.1)
     ]

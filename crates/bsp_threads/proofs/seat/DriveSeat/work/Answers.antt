@@ -7,12 +7,19 @@ use Rattle.bsp_threads.proofs.seat.DriveSeat.work.Goals as goal
 pub returns-in-Ok-clause-stepped : goal.returns-in-Ok-clause-stepped
 returns-in-Ok-clause-stepped g c =
     let s = c.args.self.now in
-    let t : DriveSeat g.row.N.Denot = record { node = c.work.new.self; mail = s.mail; works = (s.works + 1) % 18446744073709551616; standing = s.standing } in
+    let t : DriveSeat g.row.N.Denot = record {
+      node = c.work.new.self;
+      mail = s.mail;
+      works = (s.works + 1) % 18446744073709551616;
+      standing = s.standing;
+    } in
     has_worked g.N.Phased.view (WorksFor g.N.Phased.IsPlan g.N.Phased.count g.N.Phased.rows g.N.Phased.holds) s t
-    c.requires.due c.in-Ok.ensures.ok c.work.ensures.count refl (λ small. let r : (s.works + 1) % 18446744073709551616 ≡ s.works + 1 = omega arith in r)
+    c.requires.due c.in-Ok.ensures.ok c.work.ensures.count refl (λ small. let r : (s.works + 1) % 18446744073709551616 ≡ s.works
+    + 1 = omega arith in r)
 
 pub returns-in-Err-clause-stepped : goal.returns-in-Err-clause-stepped
 returns-in-Err-clause-stepped g c =
     let s = c.args.self.now in
     let t : DriveSeat g.row.N.Denot = record { node = c.work.new.self; mail = s.mail; works = s.works; standing = s.standing } in
-    has_not_worked g.N.Phased.view (WorksFor g.N.Phased.IsPlan g.N.Phased.count g.N.Phased.rows g.N.Phased.holds) s t c.in-Err.ensures.err refl refl
+    has_not_worked g.N.Phased.view (WorksFor g.N.Phased.IsPlan g.N.Phased.count g.N.Phased.rows g.N.Phased.holds) s t c.in-Err.ensures.err
+    refl refl

@@ -1,5 +1,6 @@
 use Rattle.std.proofs.Common.{rules, ◌<◌, ◌^◌, refl, sym, ◌∙◌, arith}
-use Rattle.chaos_dist.specs.LayoutLaws.{width_of-some, element_at-below, owner_of-element_at, local_of-element_at, element_of-is, same_place}
+use Rattle.chaos_dist.specs.LayoutLaws.{width_of-some, element_at-below, owner_of-element_at, local_of-element_at, element_of-is}
+use Rattle.chaos_dist.specs.LayoutLaws.{same_place}
 use Rattle.chaos_dist.proofs.Formulas.{StaysBelow-element}
 use Rattle.chaos_dist.proofs.regular.Regular.global_of.Goals as goal
 
@@ -37,8 +38,10 @@ returns-clause-only c g from_one within owner local =
     let width = width_of-some s.shape s.extent s.nodes s.some_elements s.some_nodes s.some_size in
     rw (c.width-width.ensures, c.from.ensures, c.from-2.ensures)
     (same_place s.shape s.extent s.nodes g _ from_one (omega arith)
-    (owner ∙ sym (owner_of-element_at s.shape s.extent s.nodes c.args.node c.args.local s.some_nodes width c.requires.node c.requires.place))
-    (local ∙ sym (local_of-element_at s.shape s.extent s.nodes c.args.node c.args.local s.some_nodes width c.requires.node c.requires.place)))
+    (owner ∙ sym (owner_of-element_at s.shape s.extent s.nodes c.args.node c.args.local s.some_nodes width c.requires.node
+    c.requires.place))
+    (local ∙ sym (local_of-element_at s.shape s.extent s.nodes c.args.node c.args.local s.some_nodes width c.requires.node
+    c.requires.place)))
 
 pub overflow_mul-result : goal.overflow_mul-result
 overflow_mul-result c =
@@ -54,7 +57,8 @@ overflow_add-result c =
     let s = c.args.self in
     let small : s.extent < 2 ^ 64 = search rules in
     let width = width_of-some s.shape s.extent s.nodes s.some_elements s.some_nodes s.some_size in
-    let below = StaysBelow-element s.shape s.extent s.nodes c.args.node c.args.local c.width-width.result c.from.result c.from-2.result (2 ^ 64)
+    let below = StaysBelow-element s.shape s.extent s.nodes c.args.node c.args.local c.width-width.result c.from.result c.from-2.result
+    (2 ^ 64)
     s.some_nodes width c.requires.node c.requires.place c.width-width.ensures c.from.ensures c.from-2.ensures small in
     omega (arith, below.runs)
 
@@ -63,7 +67,8 @@ overflow_mul-result-2 c =
     let s = c.args.self in
     let small : s.extent < 2 ^ 64 = search rules in
     let width = width_of-some s.shape s.extent s.nodes s.some_elements s.some_nodes s.some_size in
-    let below = StaysBelow-element s.shape s.extent s.nodes c.args.node c.args.local c.width-width.result c.from.result c.from-2.result (2 ^ 64)
+    let below = StaysBelow-element s.shape s.extent s.nodes c.args.node c.args.local c.width-width.result c.from.result c.from-2.result
+    (2 ^ 64)
     s.some_nodes width c.requires.node c.requires.place c.width-width.ensures c.from.ensures c.from-2.ensures small in
     omega (arith, below.before)
 
@@ -72,7 +77,8 @@ overflow_add-result-2 c =
     let s = c.args.self in
     let small : s.extent < 2 ^ 64 = search rules in
     let width = width_of-some s.shape s.extent s.nodes s.some_elements s.some_nodes s.some_size in
-    let below = StaysBelow-element s.shape s.extent s.nodes c.args.node c.args.local c.width-width.result c.from.result c.from-2.result (2 ^ 64)
+    let below = StaysBelow-element s.shape s.extent s.nodes c.args.node c.args.local c.width-width.result c.from.result c.from-2.result
+    (2 ^ 64)
     s.some_nodes width c.requires.node c.requires.place c.width-width.ensures c.from.ensures c.from-2.ensures small in
     omega (arith, below.element)
 
@@ -81,6 +87,7 @@ overflow_add-result-3 c =
     let s = c.args.self in
     let small : s.extent < 2 ^ 64 = search rules in
     let width = width_of-some s.shape s.extent s.nodes s.some_elements s.some_nodes s.some_size in
-    let below = StaysBelow-element s.shape s.extent s.nodes c.args.node c.args.local c.width-width.result c.from.result c.from-2.result (2 ^ 64)
+    let below = StaysBelow-element s.shape s.extent s.nodes c.args.node c.args.local c.width-width.result c.from.result c.from-2.result
+    (2 ^ 64)
     s.some_nodes width c.requires.node c.requires.place c.width-width.ensures c.from.ensures c.from-2.ensures small in
     omega (arith, below.from_one)

@@ -13,4 +13,5 @@ all_gone None = refl
 all_gone (Some h) = ap (λ m. if not (nat_eq m 0) then Some (less 340282366920938463463374607431768211455 h) else None) (and_zero_r h.mask)
 
 pub returns-clause-held : goal.returns-clause-held
-returns-clause-held c = fin.same_map nat_cmp_total fin.nat_cmp-IsAntisymmetric _ _ (λ q. c.clear_all.ensures.held q ∙ all_gone (fin.get c.args.self.now.held q) ∙ sym (fin.get-empty nat_cmp q))
+returns-clause-held c = fin.same_map nat_cmp_total fin.nat_cmp-IsAntisymmetric _ _ (λ q. c.clear_all.ensures.held q
+    ∙ all_gone (fin.get c.args.self.now.held q) ∙ sym (fin.get-empty nat_cmp q))

@@ -1,7 +1,7 @@
 use Rattle.std.proofs.Common.{ap, map, ◌∙◌}
 use Rattle.std.proofs.lemmas.Result.{IfOk-weaker}
-use Rattle.chaos_phases.specs.LoopLetters.{owed_in}
-use Rattle.chaos_phases.specs.declared.loop_phase.LoopPhase.TheVariants.{IndexAsk}
+use Rattle.plan_loop.specs.LoopLetters.{owed_in}
+use Rattle.plan_loop.specs.declared.loop_phase.LoopPhase.TheVariants.{IndexAsk}
 use Rattle.chaos_inspect.specs.Walking.{piece_values}
 use Rattle.chaos_inspect.proofs.Fetching.{answers_right}
 use Rattle.chaos_inspect.proofs.inspection.Inspection.answers.Goals as goal
@@ -10,4 +10,6 @@ pub returns : goal.returns
 returns c =
     let x = c.args.self.now in
     IfOk-weaker c.answers.result _ _ (λ lists e owners store tables h pieces asked.
-    e ∙ ap (map (piece_values c.args.pieces.now)) (c.as_slice.ensures ∙ asked) ∙ ap (λ p. map (piece_values p) (owed_in x.facts owners store IndexAsk x.me)) pieces ∙ answers_right x.facts owners store x.me c.requires h.owned) c.answers.ensures
+    e ∙ ap (map (piece_values c.args.pieces.now)) (c.as_slice.ensures ∙ asked)
+    ∙ ap (λ p. map (piece_values p) (owed_in x.facts owners store IndexAsk x.me)) pieces
+    ∙ answers_right x.facts owners store x.me c.requires h.owned) c.answers.ensures

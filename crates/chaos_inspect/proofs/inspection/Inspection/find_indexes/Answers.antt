@@ -1,5 +1,5 @@
 use Rattle.std.proofs.Common.{ap, ◌∙◌}
-use Rattle.chaos_phases.specs.declared.loop_phase.Asking.TheVariants.{Indexes}
+use Rattle.plan_loop.specs.declared.loop_phase.Asking.TheVariants.{Indexes}
 use Rattle.chaos_inspect.specs.Walking.{spots_told, uses_without}
 use Rattle.fd_program.specs.Homes.{inspected_by}
 use Rattle.chaos_inspect.proofs.Standing.{spots_right}

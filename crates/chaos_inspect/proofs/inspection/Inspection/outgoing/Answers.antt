@@ -12,22 +12,27 @@ returns-in-Seeking c = IfOk-weaker c.place_asks.result _ _ (λ lists e owners st
 pub returns-in-Telling : goal.returns-in-Telling
 returns-in-Telling c = IfOk-weaker c.answers.result _ _ (λ lists e owners store tables h pieces pages.
     due_at c.args.self.now owners store (Telling _ _) c.in-Telling.is lists
-    (e owners store c.args.self.now.me _ h.owned pages (hand_at c.args.self.now owners store (Telling _ _) c.in-Telling.is tables h).1)) c.answers.ensures
+    (e owners store c.args.self.now.me _ h.owned pages (hand_at c.args.self.now owners store (Telling _ _) c.in-Telling.is tables h).1))
+    c.answers.ensures
 
 pub returns-in-Fetching : goal.returns-in-Fetching
 returns-in-Fetching c = IfOk-weaker c.asks.result _ _ (λ lists e owners store tables h pieces pages.
-    due_at c.args.self.now owners store Fetching c.in-Fetching.is lists (e owners store tables h (hand_at c.args.self.now owners store Fetching c.in-Fetching.is tables h))) c.asks.ensures
+    due_at c.args.self.now owners store Fetching c.in-Fetching.is lists
+    (e owners store tables h (hand_at c.args.self.now owners store Fetching c.in-Fetching.is tables h))) c.asks.ensures
 
 pub returns-in-Answering : goal.returns-in-Answering
 returns-in-Answering c = IfOk-weaker c.answers-in-Answering.result _ _ (λ lists e owners store tables h pieces pages.
     due_at c.args.self.now owners store (Answering c.in-Answering.asked) c.in-Answering.is lists
-    (e owners store tables h pieces (hand_at c.args.self.now owners store (Answering c.in-Answering.asked) c.in-Answering.is tables h).1)) c.answers-in-Answering.ensures
+    (e owners store tables h pieces (hand_at c.args.self.now owners store (Answering c.in-Answering.asked) c.in-Answering.is tables h).1))
+    c.answers-in-Answering.ensures
 
 pub returns-in-Voting : goal.returns-in-Voting
 returns-in-Voting c = IfOk-weaker c.votes.result _ _ (λ lists e owners store tables h pieces pages.
-    due_at c.args.self.now owners store Voting c.in-Voting.is lists (e owners store tables h (hand_at c.args.self.now owners store Voting c.in-Voting.is tables h))) c.votes.ensures
+    due_at c.args.self.now owners store Voting c.in-Voting.is lists
+    (e owners store tables h (hand_at c.args.self.now owners store Voting c.in-Voting.is tables h))) c.votes.ensures
 
 pub returns-in-Homing : goal.returns-in-Homing
 returns-in-Homing c = IfOk-weaker c.home_rows.result _ _ (λ lists e owners store tables h pieces pages.
     let hand = hand_at c.args.self.now owners store (Homing c.in-Homing.told) c.in-Homing.is tables h in
-    due_at c.args.self.now owners store (Homing c.in-Homing.told) c.in-Homing.is lists (e owners store tables h hand.0 hand.1 (c.as_slice.ensures ∙ hand.2))) c.home_rows.ensures
+    due_at c.args.self.now owners store (Homing c.in-Homing.told) c.in-Homing.is lists
+    (e owners store tables h hand.0 hand.1 (c.as_slice.ensures ∙ hand.2))) c.home_rows.ensures

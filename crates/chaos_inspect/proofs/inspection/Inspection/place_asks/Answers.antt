@@ -1,7 +1,7 @@
 use Rattle.std.proofs.Common.{◌∙◌}
 use Rattle.std.proofs.lemmas.Result.{IfOk-weaker}
-use Rattle.chaos_asking.specs.Laws.{uses_wanted}
-use Rattle.chaos_asking.proofs.Letters.{asks_sent}
+use Rattle.inspect_places.specs.Laws.{uses_wanted}
+use Rattle.inspect_places.proofs.Letters.{asks_sent}
 use Rattle.chaos_inspect.proofs.inspection.Inspection.place_asks.Goals as goal
 
 pub returns : goal.returns

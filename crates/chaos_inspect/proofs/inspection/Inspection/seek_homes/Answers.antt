@@ -1,6 +1,6 @@
 use Rattle.std.proofs.Common.{ap, filter, subst, ◌∙◌}
-use Rattle.chaos_asking.specs.Asks.{IsAsked}
-use Rattle.chaos_phases.specs.declared.loop_phase.Asking.TheVariants.{Homes}
+use Rattle.inspect_places.specs.Asks.{IsAsked}
+use Rattle.plan_loop.specs.declared.loop_phase.Asking.TheVariants.{Homes}
 use Rattle.chaos_inspect.specs.Walking.{is_asked, uses_through}
 use Rattle.chaos_inspect.proofs.Homing.{homes_wanted}
 use Rattle.chaos_inspect.proofs.inspection.Inspection.seek_homes.Goals as goal

@@ -12,5 +12,6 @@ returns c =
     IfOk-weaker c.to_all.result _ _ (λ lists e owners store tables h fetched.
     e ∙ ap (replicate x.facts.nodes) c.in_ok-numbers.ensures
     ∙ votes_sent x.facts owners store x.me c.in_ok-vote.vote
-    (c.in_ok-vote.ensures ∙ ap (λ is. first_of (filter_map (offence_at x.facts.arrays) (uses_through x.facts is c.as_slice-2.result.now))) (c.as_slice.ensures ∙ h.mine)
+    (c.in_ok-vote.ensures ∙ ap (λ is. first_of (filter_map (offence_at x.facts.arrays) (uses_through x.facts is c.as_slice-2.result.now)))
+    (c.as_slice.ensures ∙ h.mine)
     ∙ own_right x.facts store x.me c.as_slice-2.result.now (c.as_slice-2.ensures ∙ fetched))) c.to_all.ensures

@@ -24,4 +24,5 @@ end_scatter-requires-clause-at c = ap (λ (v : View NodeState). v.state.at.activ
 
 pub returns-in-Ended-clause-right : goal.returns-in-Ended-clause-right
 returns-in-Ended-clause-right c =
-    ended_right c.args.self.now c.stop.result c.requires (ap (λ (v : View NodeState). v.state.at.activity) (sym c.self.view_is) ∙ c.in-Ended.is)
+    ended_right c.args.self.now c.stop.result c.requires (ap (λ (v : View NodeState). v.state.at.activity) (sym c.self.view_is)
+    ∙ c.in-Ended.is)

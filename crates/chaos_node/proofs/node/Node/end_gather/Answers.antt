@@ -10,4 +10,5 @@ gathered-requires-clause-kept c =
 pub returns-in-None-clause-right : goal.returns-in-None-clause-right
 returns-in-None-clause-right c =
     never_gathers c.args.self.now c.stop.result c.requires.at
-    (kept_there c.args.self.now (kept_same (shown c.self.inside) c.args.self.now c.as_slice.result.now _ c.self.view_is c.as_slice.ensures c.in-None.ensures))
+    (kept_there c.args.self.now (kept_same (shown c.self.inside) c.args.self.now c.as_slice.result.now _ c.self.view_is c.as_slice.ensures
+    c.in-None.ensures))

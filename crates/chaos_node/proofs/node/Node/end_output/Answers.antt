@@ -14,13 +14,17 @@ enter_output-requires c = record { left = still_small c.self.inside.left c.self.
 
 pub returns-clause-made : goal.returns-clause-made
 returns-clause-made c =
-    made_by (shown c.self.inside) c.args.self.now c.self.inside.me _ _ c.self.view_is (ap (λ (v : View NodeState). v.face.me) c.self.view_is)
-    (one_behind (shown c.self.inside) c.args.self.now c.self.view_is c.requires.work) c.in_ok-entered.ensures.made c.in_ok-entered.ensures.falls
+    made_by (shown c.self.inside) c.args.self.now c.self.inside.me _ _ c.self.view_is
+    (ap (λ (v : View NodeState). v.face.me) c.self.view_is)
+    (one_behind (shown c.self.inside) c.args.self.now c.self.view_is c.requires.work) c.in_ok-entered.ensures.made
+    c.in_ok-entered.ensures.falls
 
 pub returns-clause-right : goal.returns-clause-right
 returns-clause-right c plan t p is less row holds =
     output_right plan t p c.args.number c.args.self.now c.in_ok-line.line c.number_after.result _ c.in_ok-entered.entered is
-    (is_put_out c.texts_go_on.ensures.outputs c.plans_can_print.ensures plan t p c.args.number c.args.self.now c.in_ok-line.line is less row holds c.requires.at c.in_ok-line.ensures)
+    (is_put_out c.texts_go_on.ensures.outputs c.plans_can_print.ensures plan t p c.args.number c.args.self.now c.in_ok-line.line is less
+    row holds c.requires.at c.in_ok-line.ensures)
     c.number_after.ensures
     (one_behind (shown c.self.inside) c.args.self.now c.self.view_is c.requires.work)
-    (subst (λ (v : View NodeState). EntersOutput v.state v.face.me c.number_after.result (c.self.inside.left - 1) c.in_ok-entered.entered) c.self.view_is c.in_ok-entered.ensures.right)
+    (subst (λ (v : View NodeState). EntersOutput v.state v.face.me c.number_after.result (c.self.inside.left - 1) c.in_ok-entered.entered)
+    c.self.view_is c.in_ok-entered.ensures.right)

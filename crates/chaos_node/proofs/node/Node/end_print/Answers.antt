@@ -15,12 +15,15 @@ enter_next-requires-clause-left c = still_small c.self.inside.left c.self.invari
 pub returns-clause-made : goal.returns-clause-made
 returns-clause-made c =
     made_by (shown c.self.inside) c.args.self.now c.between.result.me _ _ c.self.view_is c.between.ensures.is.node
-    (one_behind (shown c.self.inside) c.args.self.now c.self.view_is c.requires.work) c.in_ok-entered.ensures.made c.in_ok-entered.ensures.falls
+    (one_behind (shown c.self.inside) c.args.self.now c.self.view_is c.requires.work) c.in_ok-entered.ensures.made
+    c.in_ok-entered.ensures.falls
 
 pub returns-clause-right : goal.returns-clause-right
 returns-clause-right c plan t p is less row holds =
     print_right plan t p c.args.self.now c.in_ok-line.line c.between.result c.next_number.result _ c.in_ok-entered.entered is
-    (is_printed c.texts_go_on.ensures.prints c.plans_can_print.ensures plan t p c.args.self.now c.in_ok-line.line is less row holds c.requires.at c.in_ok-line.ensures)
+    (is_printed c.texts_go_on.ensures.prints c.plans_can_print.ensures plan t p c.args.self.now c.in_ok-line.line is less row holds
+    c.requires.at c.in_ok-line.ensures)
     c.between.ensures.is c.next_number.ensures
     (one_behind (shown c.self.inside) c.args.self.now c.self.view_is c.requires.work)
-    (subst (λ (v : View NodeState). EntersNext v.state c.between.result c.next_number.result (c.self.inside.left - 1) c.in_ok-entered.entered) c.self.view_is c.in_ok-entered.ensures.right)
+    (subst (λ (v : View NodeState). EntersNext v.state c.between.result c.next_number.result (c.self.inside.left - 1)
+    c.in_ok-entered.entered) c.self.view_is c.in_ok-entered.ensures.right)

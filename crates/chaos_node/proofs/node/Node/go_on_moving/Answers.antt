@@ -16,7 +16,8 @@ enter_move-requires c = record { left = still_small c.self.inside.left c.self.in
 
 pub returns-clause-made : goal.returns-clause-made
 returns-clause-made c =
-    less_made c.self.inside c.args.self.now (record { effect = Nothing; line = c.new.result; entered = c.in_ok-entered.entered }) c.self.view_is c.requires.work c.in_ok-entered.ensures.made
+    less_made c.self.inside c.args.self.now (record { effect = Nothing; line = c.new.result; entered = c.in_ok-entered.entered })
+    c.self.view_is c.requires.work c.in_ok-entered.ensures.made
     c.in_ok-entered.ensures.falls
 
 pub returns-clause-right : goal.returns-clause-right
@@ -27,5 +28,6 @@ returns-clause-right c =
     let e = c.in_ok-entered.entered in
     right_seen s c.args.self.now (record { effect = Nothing; line = c.new.result; entered = e }) c.self.view_is
     (no_line v Nothing e c.new.result c.new.ensures
-    (move_goes_on v m e (s.left - 1) (subst (λ x. EndsStage x m) (sym c.self.view_is) c.requires.ends) c.requires.some (one_back c.self.inside.left (has_left c.self.inside c.args.self.now c.self.view_is c.requires.work))
+    (move_goes_on v m e (s.left - 1) (subst (λ x. EndsStage x m) (sym c.self.view_is) c.requires.ends) c.requires.some
+    (one_back c.self.inside.left (has_left c.self.inside c.args.self.now c.self.view_is c.requires.work))
     (subst (λ sizes. EntersMove v m sizes (s.left - 1) e) c.as_slice.ensures c.in_ok-entered.ensures.right)))

@@ -20,8 +20,15 @@ pub returns-clause-made : goal.returns-clause-made
 returns-clause-made c =
     let s = c.self.inside in
     let e = c.in_ok-entered.entered in
-    less_made s c.args.self.now (record { effect = Moves c.args.moving.share.decomposition c.finish-moved.result c.in_ok-parts.parts c.in_ok-records.records; line = c.new.result; entered = e }) c.self.view_is c.requires.work
-    (subst (λ n. CanStand n s.session.now.nodes e) (look_seen s c.args.self.now c.in_ok-elements.elements c.in_ok-parts.parts c.in_ok-records.records c.between_with-between.result c.self.view_is c.between_with-between.ensures.is).node c.in_ok-entered.ensures.made) c.in_ok-entered.ensures.falls
+    less_made s c.args.self.now (record {
+      effect = Moves c.args.moving.share.decomposition c.finish-moved.result c.in_ok-parts.parts
+          c.in_ok-records.records;
+      line = c.new.result;
+      entered = e;
+    }) c.self.view_is c.requires.work
+    (subst (λ n. CanStand n s.session.now.nodes e) (look_seen s c.args.self.now c.in_ok-elements.elements c.in_ok-parts.parts
+    c.in_ok-records.records c.between_with-between.result c.self.view_is c.between_with-between.ensures.is).node
+    c.in_ok-entered.ensures.made) c.in_ok-entered.ensures.falls
 
 pub returns-clause-right : goal.returns-clause-right
 returns-clause-right c =
@@ -30,11 +37,23 @@ returns-clause-right c =
     let m = c.args.moving in
     let x = c.finish-moved.result in
     let e = c.in_ok-entered.entered in
-    right_seen s c.args.self.now (record { effect = Moves c.args.moving.share.decomposition c.finish-moved.result c.in_ok-parts.parts c.in_ok-records.records; line = c.new.result; entered = e }) c.self.view_is
-    (no_line v (Moves c.args.moving.share.decomposition c.finish-moved.result c.in_ok-parts.parts c.in_ok-records.records) e c.new.result c.new.ensures
-    (move_is_over v m x c.in_ok-elements.elements c.in_ok-parts.parts c.in_ok-records.records c.in_ok-pages.pages c.between_with-between.result c.next_number.result (s.left - 1) e
-    c.notes_keep_the_past.ensures.moves c.notes_keep_the_past.ensures.few c.facts_are_known.ensures.steps (subst (λ x. EndsStage x m) (sym c.self.view_is) c.requires.ends) c.requires.none
+    right_seen s c.args.self.now (record {
+      effect = Moves c.args.moving.share.decomposition c.finish-moved.result c.in_ok-parts.parts
+          c.in_ok-records.records;
+      line = c.new.result;
+      entered = e;
+    }) c.self.view_is
+    (no_line v (Moves c.args.moving.share.decomposition c.finish-moved.result c.in_ok-parts.parts c.in_ok-records.records) e c.new.result
+    c.new.ensures
+    (move_is_over v m x c.in_ok-elements.elements c.in_ok-parts.parts c.in_ok-records.records c.in_ok-pages.pages
+    c.between_with-between.result c.next_number.result (s.left - 1) e
+    c.notes_keep_the_past.ensures.moves c.notes_keep_the_past.ensures.few c.facts_are_known.ensures.steps
+    (subst (λ x. EndsStage x m) (sym c.self.view_is) c.requires.ends) c.requires.none
     c.finish-moved.ensures c.in_ok-elements.ensures
-    (c.in_ok-parts.ensures ∙ ap (λ arrays. parts_with arrays m.share.decomposition s.holdings.parts x.pieces) c.as_slice-arrays.ensures) c.in_ok-records.ensures.moved c.in_ok-pages.ensures
-    (look_seen s c.args.self.now c.in_ok-elements.elements c.in_ok-parts.parts c.in_ok-records.records c.between_with-between.result c.self.view_is c.between_with-between.ensures.is)
-    (number_seen s c.args.self.now c.next_number.result c.self.view_is c.next_number.ensures) (one_back c.self.inside.left (has_left c.self.inside c.args.self.now c.self.view_is c.requires.work)) c.in_ok-entered.ensures.right))
+    (c.in_ok-parts.ensures ∙ ap (λ arrays. parts_with arrays m.share.decomposition s.holdings.parts x.pieces) c.as_slice-arrays.ensures)
+    c.in_ok-records.ensures.moved c.in_ok-pages.ensures
+    (look_seen s c.args.self.now c.in_ok-elements.elements c.in_ok-parts.parts c.in_ok-records.records c.between_with-between.result
+    c.self.view_is c.between_with-between.ensures.is)
+    (number_seen s c.args.self.now c.next_number.result c.self.view_is c.next_number.ensures)
+    (one_back c.self.inside.left (has_left c.self.inside c.args.self.now c.self.view_is c.requires.work))
+    c.in_ok-entered.ensures.right))

@@ -16,7 +16,11 @@ enter_inspection-requires-clause-left c = still_small c.self.inside.left c.self.
 
 pub returns-clause-made : goal.returns-clause-made
 returns-clause-made c =
-    less_made c.self.inside c.args.self.now (record { effect = Inspects c.args.tables None; line = c.new.result; entered = c.in_ok-entered.entered }) c.self.view_is c.requires.work c.in_ok-entered.ensures.made
+    less_made c.self.inside c.args.self.now (record {
+      effect = Inspects c.args.tables None;
+      line = c.new.result;
+      entered = c.in_ok-entered.entered;
+    }) c.self.view_is c.requires.work c.in_ok-entered.ensures.made
     c.in_ok-entered.ensures.falls
 
 pub returns-clause-right : goal.returns-clause-right
@@ -28,5 +32,7 @@ returns-clause-right c =
     let e = c.in_ok-entered.entered in
     right_seen s c.args.self.now (record { effect = Inspects tables None; line = c.new.result; entered = e }) c.self.view_is
     (no_line v (Inspects tables None) e c.new.result c.new.ensures
-    (inspection_goes_on v i tables e (s.left - 1) c.others_stay_prepared.ensures (subst (λ x. EndsPhase x i tables) (sym c.self.view_is) c.requires.ends) c.requires.passes c.requires.goes_on
-    (one_back c.self.inside.left (has_left c.self.inside c.args.self.now c.self.view_is c.requires.work)) (subst (λ sizes. EntersInspection v i sizes (s.left - 1) e) c.as_slice.ensures c.in_ok-entered.ensures.right)))
+    (inspection_goes_on v i tables e (s.left - 1) c.others_stay_prepared.ensures (subst (λ x. EndsPhase x i tables) (sym c.self.view_is)
+    c.requires.ends) c.requires.passes c.requires.goes_on
+    (one_back c.self.inside.left (has_left c.self.inside c.args.self.now c.self.view_is c.requires.work))
+    (subst (λ sizes. EntersInspection v i sizes (s.left - 1) e) c.as_slice.ensures c.in_ok-entered.ensures.right)))

@@ -14,11 +14,13 @@ returns-clause-ok c =
 
 pub returns-clause-me : goal.returns-clause-me
 returns-clause-me c =
-    either_way c.commit.result c.commit.ensures.face c.commit.ensures.err (λ face. ap (λ (f : Face). f.me) face) (λ same. ap (λ (v : View NodeState). v.face.me) same)
+    either_way c.commit.result c.commit.ensures.face c.commit.ensures.err (λ face. ap (λ (f : Face). f.me) face)
+    (λ same. ap (λ (v : View NodeState). v.face.me) same)
 
 pub returns-clause-count : goal.returns-clause-count
 returns-clause-count c =
-    either_way c.commit.result c.commit.ensures.face c.commit.ensures.err (λ face. ap (λ (f : Face). f.count) face) (λ same. ap (λ (v : View NodeState). v.face.count) same)
+    either_way c.commit.result c.commit.ensures.face c.commit.ensures.err (λ face. ap (λ (f : Face). f.count) face)
+    (λ same. ap (λ (v : View NodeState). v.face.count) same)
 
 pub returns-clause-left : goal.returns-clause-left
 returns-clause-left c =

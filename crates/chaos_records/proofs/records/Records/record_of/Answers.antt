@@ -16,6 +16,8 @@ returns c =
     let found : c.index-as_slice-site.result ≡ it =
     given_at c.args.checked.now.sites c.args.site c.index-as_slice-site.result no_site c.requires.site
     (c.index-as_slice-site.is ∙ ap (λ l. get_or l c.args.site c.index-as_slice-site.result) sites) in
-    let versions : c.in_ok-versions.versions ≡ map (λ d. (setting_in c.args.self.now d).version) (decompositions_of c.args.checked.now it) = search (rules, found) in
-    let changes : c.in_ok-changes.changes ≡ map (number_at c.args.self.now.changes) (index_arrays_of c.args.checked.now it) = search (rules, found) in
+    let versions : c.in_ok-versions.versions ≡ map (λ d. (setting_in c.args.self.now d).version)
+    (decompositions_of c.args.checked.now it) = search (rules, found) in
+    let changes : c.in_ok-changes.changes ≡ map (number_at c.args.self.now.changes) (index_arrays_of c.args.checked.now it) =
+    search (rules, found) in
     same_parts _ _ _ _ _ _ _ _ _ _ low high adds versions changes

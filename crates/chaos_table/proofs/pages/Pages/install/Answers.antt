@@ -12,7 +12,8 @@ returns c =
     let size : length before ≡ 16 = search rules in
     let owners = owners_on c.args.extent c.args.nodes c.args.page c.args.pairs.now in
     let is : c.as_slice.result.now ≡ owners = c.as_slice.ensures.value ∙ c.in_ok-owners.ensures.owners in
-    let all : All (λ o. o < c.args.nodes) owners = subst (λ (os : List ℕ). All (λ o. o < c.args.nodes) os) c.in_ok-owners.ensures.owners c.in_ok-owners.ensures.nodes in
+    let all : All (λ o. o < c.args.nodes) owners = subst (λ (os : List ℕ). All (λ o. o < c.args.nodes) os) c.in_ok-owners.ensures.owners
+    c.in_ok-owners.ensures.nodes in
     let made : ℕ → List Place → Pages = λ first places. record { first = first; places = places } in
     ap (λ f. made f c.in_ok-places.places) c.first-first.ensures
     ∙ ap (made (first_on c.args.extent c.args.nodes c.args.page))

@@ -21,7 +21,8 @@ decreases-scalar l = 5 * length l.self.now.rest.now + 4
 abbrev pub invariant-more_scalar_terms-loop-self : goal.invariant-more_scalar_terms-loop-self
 invariant-more_scalar_terms-loop-self l = record {
   shrinks : length l.self.rest.now ≤ length l.fn.self.rest.now;
-  reads : (k : Scalar → Calm) → run l.fn.self.rest.now (Then (MoreScalarTerms l.fn.first k)) ≡ run l.self.rest.now (Then (MoreScalarTerms l.left k));
+  reads : (k : Scalar → Calm) → run l.fn.self.rest.now (Then (MoreScalarTerms l.fn.first k)) ≡ run l.self.rest.now
+      (Then (MoreScalarTerms l.left k));
 }
 
 abbrev pub decreases-more_scalar_terms-loop-self : goal.decreases-more_scalar_terms-loop-self
@@ -30,7 +31,8 @@ decreases-more_scalar_terms-loop-self l = length l.self.rest.now
 abbrev pub invariant-more_scalar_factors-loop-self : goal.invariant-more_scalar_factors-loop-self
 invariant-more_scalar_factors-loop-self l = record {
   shrinks : length l.self.rest.now ≤ length l.fn.self.rest.now;
-  reads : (k : Scalar → Calm) → run l.fn.self.rest.now (Then (MoreScalarFactors l.fn.first k)) ≡ run l.self.rest.now (Then (MoreScalarFactors l.left k));
+  reads : (k : Scalar → Calm) → run l.fn.self.rest.now (Then (MoreScalarFactors l.fn.first k)) ≡ run l.self.rest.now
+      (Then (MoreScalarFactors l.left k));
 }
 
 abbrev pub decreases-more_scalar_factors-loop-self : goal.decreases-more_scalar_factors-loop-self

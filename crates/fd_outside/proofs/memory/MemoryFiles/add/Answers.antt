@@ -9,4 +9,5 @@ returns-clause-held c =
     refilled_contents c.args.self.now.files.items c.replace_in.new.files.items c.args.bytes c.args.name.now c.replace_in.ensures there
 
 pub returns-clause-faults : goal.returns-clause-faults
-returns-clause-faults c = refilled_faults c.args.self.now.files.items c.replace_in.new.files.items c.args.bytes c.args.self.now.absent c.args.name.now c.replace_in.ensures
+returns-clause-faults c = refilled_faults c.args.self.now.files.items c.replace_in.new.files.items c.args.bytes c.args.self.now.absent
+    c.args.name.now c.replace_in.ensures

@@ -4,7 +4,8 @@ use Rattle.fd_outside.proofs.Named.{marked_contents, marked_faults}
 use Rattle.fd_outside.proofs.memory.MemoryFiles.count_fault.Goals as goal
 
 pub returns-else-is_none-clause-same : goal.returns-else-is_none-clause-same
-returns-else-is_none-clause-same c = marked_contents c.args.self.now.files.items c.count_in.new.files.items c.args.name.now c.count_in.ensures
+returns-else-is_none-clause-same c = marked_contents c.args.self.now.files.items c.count_in.new.files.items c.args.name.now
+    c.count_in.ensures
 
 pub returns-else-is_none-clause-counts : goal.returns-else-is_none-clause-counts
 returns-else-is_none-clause-counts c =

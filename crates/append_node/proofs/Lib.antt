@@ -1,0 +1,7 @@
+pub mod Walks
+pub mod Handing
+pub mod Blocks
+pub mod Firsts
+pub mod Works
+pub mod Putting
+pub mod Listing

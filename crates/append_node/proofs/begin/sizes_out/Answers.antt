@@ -1,0 +1,34 @@
+use Rattle.std.proofs.Common.{◌/◌, ℕ, List, [], ◌∷◌, ◌++◌, length, sym, ◌∙◌, ap, arith, subst}
+use Rattle.fd_words.specs.Lists.{list_at}
+use Rattle.chaos_letter.specs.declared.letter.Letter.{Letter}
+use Rattle.bsp_core.specs.Views.{Ascends, nodes_in}
+use Rattle.bsp_desk.specs.Picks.{picked_ascends, picked_else, picked_then}
+use Rattle.bsp_desk.specs.Ways.{not_to_self, sends}
+use Rattle.bsp_desk.specs.declared.way.Way.TheVariants.{ToAll}
+use Rattle.append_node.specs.Telling.{size_told}
+use Rattle.append_node.proofs.begin.sizes_out.Goals as goal
+use Rattle.append_node.proofs.begin.sizes_out.Goals.{then-sends+in_ok-letter+in_ok-push_back, else-sends}
+
+pub loop-q-preserved : goal.loop-q-preserved
+loop-q-preserved c =
+    let letter = λ (q : ℕ). size_told c.args.round (length (list_at c.args.lists.now q) / 2) in
+    let sent = λ (q : ℕ). sends ToAll c.args.seat.me q in
+    let before = c.loop-q.out.items in
+    elim c.if-sends.branch [
+      | then-sends+in_ok-letter+in_ok-push_back w ↦
+          picked_then letter sent c.loop-q.q before c.if-sends.out.items c.loop-q.invariant (sym w.if-sends.ensures)
+          (ap (λ z. z.items) w.out-is
+          ∙ w.in_ok-push_back.ensures.items
+          ∙ ap (λ (x : Letter). before ++ (c.loop-q.q, x) ∷ []) (w.in_ok-letter.ensures
+          ∙ ap (size_told c.args.round) w.pairs_for.ensures.is))
+      | else-sends w ↦
+          picked_else letter sent c.loop-q.q before c.if-sends.out.items c.loop-q.invariant (sym w.if-sends.ensures)
+          (ap (λ z. z.items) w.out-is)
+    ]
+
+pub returns-clause-up : goal.returns-clause-up
+returns-clause-up c =
+    let letter = λ (q : ℕ). size_told c.args.round (length (list_at c.args.lists.now q) / 2) in
+    subst (λ (z : List (ℕ × Letter)). Ascends c.args.seat.me c.args.seat.count 0 (nodes_in z)) (sym c.loop-q.invariant)
+    (picked_ascends letter (λ q. sends ToAll c.args.seat.me q) c.args.seat.me c.args.seat.count 0 c.loop-q.q (omega arith)
+    (not_to_self ToAll c.args.seat.me))

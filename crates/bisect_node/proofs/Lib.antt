@@ -1,0 +1,5 @@
+mod Lines
+mod Cutting
+mod Widest
+mod Entering
+mod Works

@@ -1,0 +1,4 @@
+pub mod WordLaws
+pub mod Reading
+pub mod Ending
+pub mod Answered

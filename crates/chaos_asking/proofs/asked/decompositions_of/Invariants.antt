@@ -1,6 +1,0 @@
-use Rattle.std.proofs.Common.{◌≡◌, map, take}
-use Rattle.chaos_phases.specs.LoopLetters.{decomposition_met}
-use Rattle.chaos_asking.proofs.asked.decompositions_of.Given as goal
-
-abbrev pub invariant-loop-used : goal.invariant-loop-used
-invariant-loop-used l = l.numbers ≡ map (decomposition_met l.facts) (take l.used-index l.uses)

@@ -1,8 +1,0 @@
-use Rattle.chaos_due.proofs.laws.data_is_carried.Goals as goal
-use Rattle.chaos_due.specs.DataLetters.{needed_is_carried, given_is_carried}
-
-pub returns-clause-needed : goal.returns-clause-needed
-returns-clause-needed c = needed_is_carried
-
-pub returns-clause-given : goal.returns-clause-given
-returns-clause-given c = given_is_carried

@@ -1,5 +1,0 @@
-use Rattle.chaos_limits.proofs.laws.unrolled_is_within.Goals as goal
-use Rattle.chaos_limits.specs.Unrolled.{unrolled_is_within as law}
-
-pub returns : goal.returns
-returns c = law

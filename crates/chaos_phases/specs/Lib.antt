@@ -1,2 +1,0 @@
-pub mod LoopLetters
-pub mod Fits

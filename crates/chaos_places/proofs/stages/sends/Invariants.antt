@@ -1,9 +1,0 @@
-use Rattle.std.proofs.Common.{◌≡◌}
-use Rattle.fd_words.specs.Lists.{list_at}
-use Rattle.chaos_run.specs.Phases.{is_sent}
-use Rattle.chaos_places.specs.Letters.{letter_in}
-use Rattle.chaos_run.specs.Picks.{picked}
-use Rattle.chaos_places.proofs.stages.sends.Given as goal
-
-abbrev pub invariant-loop-q : goal.invariant-loop-q
-invariant-loop-q l = l.out.items ≡ picked (λ q. letter_in l.naming (list_at l.lists q)) (λ q. is_sent l.naming.stage l.me q) 0 l.q

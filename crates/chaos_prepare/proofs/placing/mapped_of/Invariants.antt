@@ -1,6 +1,0 @@
-use Rattle.std.proofs.Common.{◌≡◌, take, filter}
-use Rattle.chaos_prepare.specs.Placed.{is_mapped}
-use Rattle.chaos_prepare.proofs.placing.mapped_of.Given as goal
-
-abbrev pub invariant-loop-used : goal.invariant-loop-used
-invariant-loop-used l = l.list ≡ filter (is_mapped l.facts) (take l.used-index l.uses)

@@ -1,6 +1,0 @@
-use Rattle.std.proofs.Common.{◌≡◌, ◌++◌, take, filter}
-use Rattle.chaos_prepare.specs.Placed.{is_kept}
-use Rattle.chaos_prepare.proofs.rows.keep_all.Given as goal
-
-abbrev pub invariant-loop-used : goal.invariant-loop-used
-invariant-loop-used l = l.kept ≡ l.fn.kept ++ filter (is_kept l.facts) (take l.used-index l.list)

@@ -1,7 +1,0 @@
-use Rattle.std.proofs.Common.{subst, sym}
-use Rattle.chaos_prepare.specs.Tables.{AreTables}
-use Rattle.chaos_prepare.proofs.Sets as set
-use Rattle.chaos_prepare.proofs.table_set.TableSet.new.Goals as goal
-
-pub invariant_of-result : goal.invariant_of-result
-invariant_of-result c = subst AreTables (sym c.loop.invariant) (set.tables_none _)

@@ -1,6 +1,0 @@
-pub mod Tables
-pub mod Rows
-pub mod Placed
-pub mod Needs
-pub mod Preparing
-pub mod Laws

@@ -1,0 +1,5 @@
+pub mod Answered
+pub mod Ending
+pub mod Reading
+pub mod Signed
+pub mod WordLaws

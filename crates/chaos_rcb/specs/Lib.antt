@@ -1,0 +1,4 @@
+pub mod Asked
+pub mod Columns
+pub mod Jobs
+pub mod Outcomes

@@ -1,8 +1,0 @@
-use Rattle.chaos_reach.specs.ReachedLaws.{uses_are_reached, values_are_behind}
-use Rattle.chaos_reach.proofs.laws.reached_laws.Goals as goal
-
-pub returns-clause-uses : goal.returns-clause-uses
-returns-clause-uses c = uses_are_reached
-
-pub returns-clause-behind : goal.returns-clause-behind
-returns-clause-behind c = values_are_behind

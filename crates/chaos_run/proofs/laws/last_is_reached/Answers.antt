@@ -1,5 +1,0 @@
-use Rattle.chaos_run.proofs.laws.last_is_reached.Goals as goal
-use Rattle.chaos_run.specs.EndLaws.{last_is_reached as law}
-
-pub returns : goal.returns
-returns c = law

@@ -1,5 +1,0 @@
-use Rattle.chaos_run.proofs.laws.left_is_small.Goals as goal
-use Rattle.chaos_run.specs.LeftLaws.{left_is_small as law}
-
-pub returns : goal.returns
-returns c = law

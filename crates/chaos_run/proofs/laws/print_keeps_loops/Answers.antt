@@ -1,5 +1,0 @@
-use Rattle.chaos_run.proofs.laws.print_keeps_loops.Goals as goal
-use Rattle.chaos_run.specs.StepLaws.{print_keeps_loops as law}
-
-pub returns : goal.returns
-returns c = law

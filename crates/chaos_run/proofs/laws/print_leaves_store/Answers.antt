@@ -1,5 +1,0 @@
-use Rattle.chaos_run.proofs.laws.print_leaves_store.Goals as goal
-use Rattle.chaos_run.specs.StepLaws.{print_leaves_store as law}
-
-pub returns : goal.returns
-returns c = law

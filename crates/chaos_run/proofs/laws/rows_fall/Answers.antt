@@ -1,5 +1,0 @@
-use Rattle.chaos_run.proofs.laws.rows_fall.Goals as goal
-use Rattle.chaos_run.specs.RowLaws.{rows_fall as law}
-
-pub returns : goal.returns
-returns c = law

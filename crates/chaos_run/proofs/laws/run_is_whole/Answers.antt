@@ -1,5 +1,0 @@
-use Rattle.chaos_run.proofs.laws.run_is_whole.Goals as goal
-use Rattle.chaos_run.specs.EndLaws.{run_is_whole as law}
-
-pub returns : goal.returns
-returns c = law

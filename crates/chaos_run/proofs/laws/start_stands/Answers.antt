@@ -1,5 +1,0 @@
-use Rattle.chaos_run.proofs.laws.start_stands.Goals as goal
-use Rattle.chaos_run.specs.StepLaws.{start_stands as law}
-
-pub returns : goal.returns
-returns c = law

@@ -1,0 +1,5 @@
+pub mod Readings
+pub mod Files
+pub mod Lines
+pub mod Endings
+pub mod EndLaws

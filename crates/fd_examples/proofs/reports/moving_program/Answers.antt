@@ -1,8 +1,0 @@
-use Rattle.std.specs.Prelude.{refl}
-use Rattle.std.specs.Int.{int_wrap}
-use Rattle.std.specs.Fmt.{digits}
-use Rattle.fd_examples.proofs.reports.moving_program.Goals as goal
-
-pub returns : goal.returns
-unfolding int_wrap digits
-returns c = record { moved = refl; moved_report = refl; stayed = refl; stayed_report = refl }

@@ -1,4 +1,0 @@
-pub mod Words
-pub mod Programs
-pub mod Scenes
-pub mod Witness

@@ -1,9 +1,0 @@
-use Rattle.std.proofs.Common.{codes, ℕ, List, [], ◌∷◌, ◌++◌, ◌∙◌, ap}
-use Rattle.fd_load.specs.Lines.{unread_line}
-use Rattle.fd_load.proofs.Pieces.{three}
-use Rattle.fd_load.proofs.line.unread_line.Goals as goal
-
-pub returns : goal.returns
-unfolding unread_line
-returns c = three [] (codes "cannot read ") c.args.name.now (10 ∷ []) c.append.new.self c.append-2.new.self c.push.new.self (c.in_ok-append.ensures.ok ∙ ap (λ (l : List ℕ). l ++ codes "cannot read ") c.new-line.ensures)
-    (c.in_ok-append-2.ensures.ok ∙ ap (λ (l : List ℕ). c.append.new.self ++ l) c.as_bytes.ensures.value) c.in_ok-push.ensures.ok

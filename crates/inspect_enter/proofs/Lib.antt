@@ -1,0 +1,9 @@
+pub mod OneEntered
+pub mod Reading
+pub mod AllMet
+pub mod InOrder
+pub mod Asked
+pub mod ByFormula
+pub mod Own
+pub mod Whole
+pub mod NoMap

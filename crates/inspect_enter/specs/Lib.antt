@@ -1,0 +1,5 @@
+pub mod Rows
+pub mod Placed
+pub mod Needs
+pub mod Preparing
+pub mod Laws
