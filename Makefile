@@ -20,7 +20,7 @@ demo: ## builds the programs unproved and runs examples: two minutes to the firs
 	$(rt)
 	@examples/demo.sh
 
-programs: ## proves and builds all programs (about 60 processor minutes), and tells where they stand
+programs: ## proves and builds all programs (about 65 processor minutes), and tells where they stand
 	$(rt)
 	$(python)
 	@bench/programs.py
