@@ -1,44 +1,22 @@
 -- A block of numbers, number by number.
-use Rattle.std.specs.Prelude.{◌≡◌, refl, ℕ, zero, suc, ◌+◌, ◌-◌, ◌==◌, ◌≤◌, ◌<◌, ℤ, pos, Bool, true, false, cond, filter, List, [], ◌∷◌}
-use Rattle.std.specs.Prelude.{◌++◌, length, map, slice_get, unwrap_or}
-use Rattle.std.specs.List.{AllByRecursion, range_with_len}
-use Rattle.std.proofs.Common.{ap, sym, ◌∙◌, subst, arith, add-one, get_or}
-use Rattle.std.proofs.lemmas.List.{map-append}
-use Rattle.chaos_dist.specs.Counting.{below, below-last, up_to}
+use Rattle.std.specs.Prelude.{◌≡◌, ℕ, zero, suc, ◌+◌, ◌-◌, ◌==◌, ◌≤◌, ◌<◌, ℤ, pos, Bool, true, false, cond, filter, List, [], ◌∷◌}
+use Rattle.std.specs.Prelude.{length, map}
+use Rattle.std.specs.List.{AllByRecursion}
+use Rattle.std.proofs.Common.{ap, sym, ◌∙◌, subst, arith, get_or}
+use Rattle.chaos_dist.specs.Counting.{below, place_by, up_to}
 use Rattle.chaos_dist.specs.Layout.{element_of, elements_of, length_of, owner_of}
 use Rattle.chaos_dist.specs.LayoutLaws.{length-elements_of}
 use Rattle.chaos_dist.specs.declared.shape.Shape.TheVariants.{Block}
 use Rattle.chaos_bins.specs.Moving.{numbers}
-use Rattle.append_node.specs.Dealing.{number_at}
+use Rattle.chaos_bins.specs.Rows.{number_at}
 use Rattle.append_node.specs.Jobs.{number_from}
-
--- one number more
-pub mapped_more : {A : Type 0} (f : ℕ → A) (k : ℕ) (xs ys : List A) (x : A) → xs ≡ map f (below k) → x ≡ f k → ys ≡ xs ++ x ∷ []
-    → ys ≡ map f (below (k + 1))
-mapped_more {A} f k xs ys x before e more =
-    more
-    ∙ ap (λ (l : List A). l ++ x ∷ []) before
-    ∙ ap (λ (y : A). map f (below k) ++ y ∷ []) e
-    ∙ sym (ap (λ n. map f (below n)) (add-one k) ∙ ap (map f) (below-last k) ∙ map-append f (below k) (k ∷ []))
-
--- a list is what it has at each place
-place_by : (d : ℕ) (xs : List ℕ) (a : ℕ) (get : ℕ → ℕ) → ((k : ℕ) → get (a + k) ≡ unwrap_or (slice_get xs k) d)
-    → map get (range_with_len a (length xs)) ≡ xs
-place_by d [] a get same = refl
-place_by d (x ∷ xs) a get same =
-    let first : get a ≡ x = ap get (let z : a ≡ a + 0 = omega arith in z) ∙ same 0 in
-    ap (λ y. y ∷ map get (range_with_len (a + 1) (length xs))) first
-    ∙ ap (λ ys. x ∷ ys) (place_by d xs (a + 1) get (λ k. ap get (let z : a + 1 + k ≡ a + suc k = omega arith in z) ∙ same (suc k)))
-
-mapped_twice : {A : Type 0} (f : ℕ → A) (g : ℕ → ℕ) (xs : List ℕ) → map (λ k. f (g k)) xs ≡ map f (map g xs)
-mapped_twice f g [] = refl
-mapped_twice {A} f g (x ∷ xs) = ap (λ (l : List A). f (g x) ∷ l) (mapped_twice f g xs)
+use Rattle.append_node.proofs.Walks.{mapped_again}
 
 pub block_by_place : (numbers : List ℤ) (extent nodes node : ℕ)
     → map (λ k. number_at numbers (element_of Block extent nodes node k - 1)) (below (length_of Block extent nodes node))
     ≡ map (λ g. number_at numbers (g - 1)) (elements_of Block extent nodes node)
 block_by_place numbers extent nodes node =
-    mapped_twice (λ g. number_at numbers (g - 1)) (element_of Block extent nodes node) (below (length_of Block extent nodes node))
+    mapped_again (λ g. number_at numbers (g - 1)) (element_of Block extent nodes node) (below (length_of Block extent nodes node))
     ∙ ap (map (λ g. number_at numbers (g - 1)))
     (ap (λ n. map (element_of Block extent nodes node) (below n)) (sym (length-elements_of Block extent nodes node))
     ∙ place_by 0 (elements_of Block extent nodes node) 0 (element_of Block extent nodes node)

@@ -3,5 +3,6 @@ pub mod Handing
 pub mod Blocks
 pub mod Firsts
 pub mod Works
+pub mod Desks
 pub mod Putting
 pub mod Listing

@@ -15,10 +15,10 @@ use Rattle.chaos_bins.specs.Plan.{sizes_letter, sizes_wanted, phases_of}
 use Rattle.chaos_bins.specs.declared.stage.Stage.{Stage}
 use Rattle.chaos_bins.specs.declared.stage.Stage.TheVariants.{Printing, Sizing}
 use Rattle.append_node.specs.Begins.{PrintBegins, RoundBegins}
-use Rattle.append_node.specs.Dealing.{dealt, length-dealt, length_empty, of_owner, stepped}
+use Rattle.chaos_bins.specs.Dealing.{dealt_rows, length-dealt, length_empty, of_owner, stepped}
 use Rattle.append_node.specs.Node.{AppendState, Holds, IsBlock, IsJob, all_sorted, append_ended, last_ended, next_rows, pairs_of, put_in}
 use Rattle.append_node.specs.Node.{with_phase}
-use Rattle.append_node.specs.NodeLaws.{face_with, first_rows, next_row, own_dealt, rows_dealt, sizes_dealt}
+use Rattle.append_node.specs.NodeLaws.{face_between, first_rows, next_row, own_dealt, rows_dealt, sizes_dealt}
 use Rattle.append_node.specs.Telling.{picked_alike, print_told, rows_told, size_told}
 use Rattle.append_node.specs.declared.begin.Begun.{Begun}
 use Rattle.append_node.specs.declared.begin.Seat.{Seat}
@@ -44,29 +44,29 @@ same_shape v stage left left' out out' due due' own own' next next' l o d w n =
 
 -- the lists that a node deals out, by what it is seen as
 pub lists_are : (v : View AppendState) (lists : List (List ℤ)) (extent nodes me : ℕ) (own : List ℤ) (got : List Letter)
-    → lists ≡ dealt extent nodes (replicate nodes []) (map (stepped extent) (all_pairs nodes me own got))
+    → lists ≡ dealt_rows extent nodes (replicate nodes []) (map (stepped extent) (all_pairs nodes me own got))
     → extent ≡ v.state.job.bins → nodes ≡ v.state.job.nodes → v.face.count ≡ v.state.job.nodes → me ≡ v.face.me → own ≡ v.state.own
     → got ≡ v.face.got
-    → lists ≡ dealt v.state.job.bins v.state.job.nodes (replicate v.state.job.nodes []) (map (stepped v.state.job.bins) (pairs_of v))
+    → lists ≡ dealt_rows v.state.job.bins v.state.job.nodes (replicate v.state.job.nodes []) (map (stepped v.state.job.bins) (pairs_of v))
 lists_are v lists extent nodes me own got is bins_is nodes_is count_is me_is own_is got_is =
     let b = v.state.job.bins in
     let n = v.state.job.nodes in
-    let made = λ (xs : List (ℤ × ℤ)). dealt b n (replicate n []) (map (stepped b) xs) in
+    let made = λ (xs : List (ℤ × ℤ)). dealt_rows b n (replicate n []) (map (stepped b) xs) in
     is
-    ∙ ap (λ e. dealt e nodes (replicate nodes []) (map (stepped e) (all_pairs nodes me own got))) bins_is
-    ∙ ap (λ k. dealt b k (replicate k []) (map (stepped b) (all_pairs k me own got))) nodes_is
+    ∙ ap (λ e. dealt_rows e nodes (replicate nodes []) (map (stepped e) (all_pairs nodes me own got))) bins_is
+    ∙ ap (λ k. dealt_rows b k (replicate k []) (map (stepped b) (all_pairs k me own got))) nodes_is
     ∙ ap (λ k. made (all_pairs k me own got)) (sym count_is)
     ∙ ap (λ m. made (all_pairs v.face.count m own got)) me_is
     ∙ ap (λ l. made (all_pairs v.face.count v.face.me l got)) own_is
     ∙ ap (λ l. made (all_pairs v.face.count v.face.me v.state.own l)) got_is
 
-pub length-lists : (lists : List (List ℤ)) (extent nodes : ℕ) (xs : List (ℤ × ℤ)) → lists ≡ dealt extent nodes (replicate nodes []) xs
+pub length-lists : (lists : List (List ℤ)) (extent nodes : ℕ) (xs : List (ℤ × ℤ)) → lists ≡ dealt_rows extent nodes (replicate nodes []) xs
     → length lists ≡ nodes
 length-lists lists extent nodes xs e = ap length e ∙ length-dealt extent nodes (replicate nodes []) xs ∙ length_empty nodes
 
 pub round_is_put : (v : View AppendState) (seat : Seat) (t left : ℕ) (lists : List (List ℤ)) (b : Begun)
     → RoundBegins seat (t + 1) left lists b
-    → lists ≡ dealt v.state.job.bins v.state.job.nodes (replicate v.state.job.nodes []) (map (stepped v.state.job.bins) (pairs_of v))
+    → lists ≡ dealt_rows v.state.job.bins v.state.job.nodes (replicate v.state.job.nodes []) (map (stepped v.state.job.bins) (pairs_of v))
     → seat.me ≡ v.face.me → seat.count ≡ v.face.count → v.face.count ≡ v.state.job.nodes → v.face.me < v.face.count → left ≡ v.face.left - 1
     → put_in v (Sizing (t + 1)) b ≡ append_ended v t
 round_is_put v seat t left lists b h is me count nodes low left_is =
@@ -118,19 +118,19 @@ print_is_put v seat steps left rows b h steps_is rows_is me count left_is =
 -- ---- the beginning
 
 pub first_lists : (job : AppendJob) (lists : List (List ℤ)) (extent nodes : ℕ) (firsts amounts xs ys : List ℤ)
-    → lists ≡ dealt extent nodes (replicate nodes []) (zip xs ys) → extent ≡ job.bins → nodes ≡ job.nodes → xs ≡ firsts → ys ≡ amounts
-    → lists ≡ dealt job.bins job.nodes (replicate job.nodes []) (zip firsts amounts)
+    → lists ≡ dealt_rows extent nodes (replicate nodes []) (zip xs ys) → extent ≡ job.bins → nodes ≡ job.nodes → xs ≡ firsts → ys ≡ amounts
+    → lists ≡ dealt_rows job.bins job.nodes (replicate job.nodes []) (zip firsts amounts)
 first_lists job lists extent nodes firsts amounts xs ys is bins_is nodes_is firsts_is amounts_is =
     is
-    ∙ ap (λ e. dealt e nodes (replicate nodes []) (zip xs ys)) bins_is
-    ∙ ap (λ k. dealt job.bins k (replicate k []) (zip xs ys)) nodes_is
-    ∙ ap (λ l. dealt job.bins job.nodes (replicate job.nodes []) (zip l ys)) firsts_is
-    ∙ ap (λ l. dealt job.bins job.nodes (replicate job.nodes []) (zip firsts l)) amounts_is
+    ∙ ap (λ e. dealt_rows e nodes (replicate nodes []) (zip xs ys)) bins_is
+    ∙ ap (λ k. dealt_rows job.bins k (replicate k []) (zip xs ys)) nodes_is
+    ∙ ap (λ l. dealt_rows job.bins job.nodes (replicate job.nodes []) (zip l ys)) firsts_is
+    ∙ ap (λ l. dealt_rows job.bins job.nodes (replicate job.nodes []) (zip firsts l)) amounts_is
 
 module _ (plan : AppendPlan) (is : IsAppendPlan plan) (job : AppendJob) (is_job : IsJob plan job) (p : ℕ) (low : p < plan.nodes)
     (firsts amounts : List ℤ)
     (block : IsBlock plan p firsts amounts) (lists : List (List ℤ))
-    (made : lists ≡ dealt job.bins job.nodes (replicate job.nodes []) (zip firsts amounts)) (b : Begun)
+    (made : lists ≡ dealt_rows job.bins job.nodes (replicate job.nodes []) (zip firsts amounts)) (b : Begun)
     (begins : RoundBegins (record { me = p; count = job.nodes }) 0 (2 * (job.steps + 1) + 1) lists b) where
   abbrev to : ℕ → Bool
   to q = sends ToAll p q
@@ -152,14 +152,14 @@ module _ (plan : AppendPlan) (is : IsAppendPlan plan) (job : AppendJob) (is_job 
   left_is : b.phase.left ≡ phases_of plan - 0
   left_is = begins.can.left ∙ ap (λ s. 2 * (s + 1) + 1) is_job.steps ∙ omega arith
 
-  face_is : face_with p job.nodes b.phase.left b.phase.out.items b.phase.due.items ≡ append_rows plan 0 p
+  face_is : face_between p job.nodes b.phase.left b.phase.out.items b.phase.due.items ≡ append_rows plan 0 p
   face_is =
-      ap (λ n. face_with p n b.phase.left b.phase.out.items b.phase.due.items) is_job.nodes
+      ap (λ n. face_between p n b.phase.left b.phase.out.items b.phase.due.items) is_job.nodes
       ∙ next_row plan 0 p b.phase.left b.phase.out.items b.phase.due.items (Sizing 0) refl left_is (omega (arith, left_is))
       (begins.out ∙ sizes_dealt job.bins job.nodes 0 lists (zip firsts amounts) to made ∙ each_row (sizes_letter 0))
       (begins.due ∙ ap (λ n. picked (λ q. sizes_wanted 0) (λ q. sends ToAll q p) 0 n) is_job.nodes)
 
-  pub starts : (face : Face) (text : List ℕ) → face ≡ face_with p job.nodes b.phase.left b.phase.out.items b.phase.due.items → text ≡ []
+  pub starts : (face : Face) (text : List ℕ) → face ≡ face_between p job.nodes b.phase.left b.phase.out.items b.phase.due.items → text ≡ []
       → (face ≡ append_rows plan 0 p) × Holds plan 0 p (record { job = job; at = Sizing 0; own = b.own; next = b.next.items; text = text })
   starts face text seen none = (
     seen ∙ face_is,

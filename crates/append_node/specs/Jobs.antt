@@ -5,7 +5,7 @@ use Rattle.std.proofs.lemmas.Int.{ints}
 use Rattle.chaos_bins.specs.Bins.{Particles}
 use Rattle.chaos_bins.specs.Moving.{AreInBins}
 use Rattle.chaos_bins.specs.Plan.{IsAppendPlan}
-use Rattle.append_node.specs.Dealing.{number_at}
+use Rattle.chaos_bins.specs.Rows.{number_at}
 use Rattle.append_node.specs.Node.{plan_of}
 use Rattle.append_node.specs.declared.job.AppendJob.{AppendJob}
 

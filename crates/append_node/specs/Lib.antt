@@ -1,4 +1,3 @@
-pub mod Dealing
 pub mod Telling
 pub mod Keys
 pub mod Begins

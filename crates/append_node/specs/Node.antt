@@ -15,7 +15,7 @@ use Rattle.chaos_bins.specs.Plan.{AppendPlan, IsAppendPlan, append_letter, appen
 use Rattle.chaos_bins.specs.Plan.{print_wanted, rows_at, sizes_letter, sizes_wanted, stage_at}
 use Rattle.chaos_bins.specs.declared.stage.Stage.{Stage}
 use Rattle.chaos_bins.specs.declared.stage.Stage.TheVariants.{Appending, Ended, Printing, Sizing}
-use Rattle.append_node.specs.Dealing.{of_owner, stepped}
+use Rattle.chaos_bins.specs.Dealing.{of_owner, stepped}
 use Rattle.append_node.specs.Telling.{size_in}
 use Rattle.append_node.specs.declared.begin.Begun.{Begun}
 use Rattle.append_node.specs.declared.job.AppendJob.{AppendJob}

@@ -23,38 +23,38 @@ use Rattle.chaos_bins.specs.Bins.{first_bin, lines_of, value}
 use Rattle.chaos_bins.specs.Coming.{all_pairs, pairs_are, told, told_is}
 use Rattle.chaos_bins.specs.Lines.{lines_are_shown, lines_from}
 use Rattle.chaos_bins.specs.Moving.{all_particles_held, come_is_held, come_to, moved, owner, particle, rows_go_on}
-use Rattle.chaos_bins.specs.Plan.{AppendPlan, IsAppendPlan, append_letter, append_rows, append_wanted, flat, held_by, letter_in, phases_of}
+use Rattle.chaos_bins.specs.Plan.{AppendPlan, IsAppendPlan, append_letter, append_rows, append_wanted, flat, held_by, letter_due, phases_of}
 use Rattle.chaos_bins.specs.Plan.{print_letter, print_rows, print_wanted, round_at, round_in, rows_at, sizes_letter, sizes_wanted}
 use Rattle.chaos_bins.specs.Plan.{stage_after, stage_at, wanted_in, way_in}
 use Rattle.chaos_bins.specs.PlanLaws.{IsPlace, length-flat, placed}
 use Rattle.chaos_bins.specs.Rounds.{bag_flat_map, first_stands}
 use Rattle.chaos_bins.specs.declared.stage.Stage.{Stage}
 use Rattle.chaos_bins.specs.declared.stage.Stage.TheVariants.{Appending, Ended, Printing, Sizing}
-use Rattle.append_node.specs.Dealing.{dealt, dealt_to, of_owner, stepped}
+use Rattle.chaos_bins.specs.Dealing.{dealt_rows, all_dealt_to, of_owner, stepped}
 use Rattle.append_node.specs.Node.{AppendState, HasIn, Holds, IsBlock, IsJob, all_sorted, append_ended, append_holds, last_ended, next_rows}
 use Rattle.append_node.specs.Node.{pairs_of, print_ended, sizes_ended, with_phase, worked, worked_in}
 use Rattle.append_node.specs.Telling.{picked_alike, rows_told, size_in, size_told}
 
 -- ---- rows
 
-abbrev pub face_with : ℕ → ℕ → ℕ → List (ℕ × Letter) → List (ℕ × Wanted) → Face
-face_with me count left out due = record { me = me; count = count; left = left; out = out; due = due; got = [] }
+abbrev pub face_between : ℕ → ℕ → ℕ → List (ℕ × Letter) → List (ℕ × Wanted) → Face
+face_between me count left out due = record { me = me; count = count; left = left; out = out; due = due; got = [] }
 
 pub next_row : (plan : AppendPlan) (phase p left : ℕ) (out : List (ℕ × Letter)) (due : List (ℕ × Wanted)) (stage : Stage)
     → stage_at plan.steps phase ≡ stage → left ≡ phases_of plan - phase → 0 < left
-    → out ≡ picked (letter_in plan stage p) (sends (way_in stage) p) 0 plan.nodes
+    → out ≡ picked (letter_due plan stage p) (sends (way_in stage) p) 0 plan.nodes
     → due ≡ picked (λ q. wanted_in plan stage q p) (λ q. sends (way_in stage) q p) 0 plan.nodes
-    → face_with p plan.nodes left out due ≡ append_rows plan phase p
+    → face_between p plan.nodes left out due ≡ append_rows plan phase p
 next_row plan phase p left out due stage at e some o d =
     row_begun plan.nodes (phases_of plan) (round_at plan) phase p left out due e
     (record {
-      some_out = λ l. o ∙ ap (λ s. picked (letter_in plan s p) (sends (way_in s) p) 0 plan.nodes) (sym at);
+      some_out = λ l. o ∙ ap (λ s. picked (letter_due plan s p) (sends (way_in s) p) 0 plan.nodes) (sym at);
       some_due = λ l. d ∙ ap (λ s. picked (λ q. wanted_in plan s q p) (λ q. sends (way_in s) q p) 0 plan.nodes) (sym at);
       none_out = λ z. absurd (omega (arith, some, z));
       none_due = λ z. absurd (omega (arith, some, z));
     })
 
-last_row : (plan : AppendPlan) (phase p : ℕ) → phases_of plan ≤ phase → face_with p plan.nodes 0 [] [] ≡ append_rows plan phase p
+last_row : (plan : AppendPlan) (phase p : ℕ) → phases_of plan ≤ phase → face_between p plan.nodes 0 [] [] ≡ append_rows plan phase p
 last_row plan phase p over =
     row_begun plan.nodes (phases_of plan) (round_at plan) phase p 0 [] [] (omega (arith, over))
     (record {
@@ -71,26 +71,27 @@ half-flat xs = omega (arith, length-flat xs)
 
 -- what is told of lists that were dealt out, by the pairs in them
 pub sizes_dealt : (bins nodes round : ℕ) (lists : List (List ℤ)) (xs : List (ℤ × ℤ)) (P : ℕ → Bool)
-    → lists ≡ dealt bins nodes (replicate nodes []) xs
+    → lists ≡ dealt_rows bins nodes (replicate nodes []) xs
     → picked (λ q. size_told round (length (list_at lists q) / 2)) P 0 nodes ≡ picked (λ q. sizes_letter round (of_owner bins nodes xs q))
     P 0 nodes
 sizes_dealt bins nodes round lists xs P e =
     picked_alike (λ q. size_told round (length (list_at lists q) / 2)) (λ q. sizes_letter round (of_owner bins nodes xs q)) P 0 nodes
     (λ q l m s.
-    let here : list_at lists q ≡ flat (of_owner bins nodes xs q) = ap (λ l. list_at l q) e ∙ dealt_to bins nodes xs q (omega (arith, m)) in
+    let here : list_at lists q ≡ flat (of_owner bins nodes xs q) = ap (λ l. list_at l q) e
+    ∙ all_dealt_to bins nodes xs q (omega (arith, m)) in
     ap (size_told round) (ap (λ (l : List ℤ). length l / 2) here ∙ half-flat (of_owner bins nodes xs q)))
 
 pub rows_dealt : (bins nodes round : ℕ) (lists : List (List ℤ)) (xs : List (ℤ × ℤ)) (P : ℕ → Bool)
-    → lists ≡ dealt bins nodes (replicate nodes []) xs
+    → lists ≡ dealt_rows bins nodes (replicate nodes []) xs
     → picked (λ q. rows_told round (list_at lists q)) P 0 nodes ≡ picked (λ q. append_letter round (of_owner bins nodes xs q)) P 0 nodes
 rows_dealt bins nodes round lists xs P e =
     picked_alike (λ q. rows_told round (list_at lists q)) (λ q. append_letter round (of_owner bins nodes xs q)) P 0 nodes
-    (λ q l m s. ap (rows_told round) (ap (λ l. list_at l q) e ∙ dealt_to bins nodes xs q (omega (arith, m))))
+    (λ q l m s. ap (rows_told round) (ap (λ l. list_at l q) e ∙ all_dealt_to bins nodes xs q (omega (arith, m))))
 
 pub own_dealt : (bins nodes me : ℕ) (lists : List (List ℤ)) (xs : List (ℤ × ℤ)) → me < nodes
-    → lists ≡ dealt bins nodes (replicate nodes []) xs
+    → lists ≡ dealt_rows bins nodes (replicate nodes []) xs
     → list_at lists me ≡ flat (of_owner bins nodes xs me)
-own_dealt bins nodes me lists xs low e = ap (λ l. list_at l me) e ∙ dealt_to bins nodes xs me low
+own_dealt bins nodes me lists xs low e = ap (λ l. list_at l me) e ∙ all_dealt_to bins nodes xs me low
 
 -- ---- the beginning
 
@@ -145,7 +146,7 @@ module _ (plan : AppendPlan) (is : IsAppendPlan plan) (phase p : ℕ) (low : p <
   here = uniform_work plan.nodes (phases_of plan) (round_at plan) phase p v.face face some
 
   got_is : (stage : Stage) → stage_at plan.steps phase ≡ stage
-      → v.face.got ≡ map (λ q. letter_in plan stage q p) (filter (λ q. sends (way_in stage) q p) (range_with_len 0 plan.nodes))
+      → v.face.got ≡ map (λ q. letter_due plan stage q p) (filter (λ q. sends (way_in stage) q p) (range_with_len 0 plan.nodes))
   got_is stage e =
       uniform_got plan.nodes (phases_of plan) (round_at plan) phase p v.face low face here.within
       ∙ ap (λ s. letters_to plan.nodes (round_in plan s) p) e
@@ -153,17 +154,17 @@ module _ (plan : AppendPlan) (is : IsAppendPlan plan) (phase p : ℕ) (low : p <
   after : (stage : Stage) → stage_at plan.steps phase ≡ stage → stage_at plan.steps (phase + 1) ≡ stage_after plan.steps stage
   after stage e = ap (stage_at plan.steps) (add-one phase) ∙ ap (stage_after plan.steps) e
 
-  faced : (left : ℕ) (out : List (ℕ × Letter)) (due : List (ℕ × Wanted)) → with_phase v.face left out due ≡ face_with p plan.nodes left
+  faced : (left : ℕ) (out : List (ℕ × Letter)) (due : List (ℕ × Wanted)) → with_phase v.face left out due ≡ face_between p plan.nodes left
       out due
   faced left out due =
-      ap (λ m. face_with m v.face.count left out due) here.me ∙ ap (λ n. face_with p n left out due) here.count
+      ap (λ m. face_between m v.face.count left out due) here.me ∙ ap (λ n. face_between p n left out due) here.count
 
   one_less : v.face.left - 1 ≡ phases_of plan - (phase + 1)
   one_less = omega (arith, here.left)
 
   begins : (stage : Stage) (out : List (ℕ × Letter)) (due : List (ℕ × Wanted)) → stage_at plan.steps (phase + 1) ≡ stage
       → phase + 1 < phases_of plan
-      → out ≡ picked (letter_in plan stage p) (sends (way_in stage) p) 0 plan.nodes
+      → out ≡ picked (letter_due plan stage p) (sends (way_in stage) p) 0 plan.nodes
       → due ≡ picked (λ q. wanted_in plan stage q p) (λ q. sends (way_in stage) q p) 0 plan.nodes
       → with_phase v.face (v.face.left - 1) out due ≡ append_rows plan (phase + 1) p
   begins stage out due at within o d =

@@ -9,7 +9,7 @@ use Rattle.chaos_letter.specs.declared.letter.Letter.{Letter}
 use Rattle.bsp_desk.specs.Picks.{picked}
 use Rattle.bsp_desk.specs.Ways.{sends}
 use Rattle.bsp_desk.specs.declared.way.Way.TheVariants.{ToFirst}
-use Rattle.append_node.specs.Dealing.{number_at}
+use Rattle.chaos_bins.specs.Rows.{number_at}
 
 -- so many pairs follow
 abbrev pub size_told : ℕ → ℕ → Letter

@@ -10,8 +10,9 @@ ghost use Rattle.chaos_bins.specs.Coming.{told as the_told};
 ghost use Rattle.append_node.specs.Begins.{PrintBegins, RoundBegins};
 ghost use Rattle.append_node.specs.Telling.{rows_told, size_in, size_told};
 
-use crate::parts::{at, told};
+use crate::parts::told;
 use bsp_desk::{Phase, Way, due_of, phase_of};
+use chaos_bins::at;
 use chaos_letter::{Kind, Letter, Wanted};
 use fd_words::{Memory, NumberLists, Numbers};
 use std::alloc::Global;

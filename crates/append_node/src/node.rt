@@ -6,13 +6,13 @@ ghost use Rattle.chaos_bins.specs.Plan.{flat};
 
 use crate::AppendJob;
 use crate::begin::{Begun, Seat, appends_due, begin_print, begin_round};
-use crate::dealing::{deal_all, deal_first};
+use crate::dealing::deal_all;
 use crate::lines::lines;
 use crate::pairs::{Pairs, SortedPairs};
 use crate::parts::part;
 use bsp_core::{Phased, TakeFault, Want};
 use bsp_desk::{Desk, Phase, no_phase};
-use chaos_bins::Stage;
+use chaos_bins::{Stage, deal_first};
 use chaos_letter::{Letter, Wanted};
 use fd_words::{Bytes, Memory, Numbers};
 use std::alloc::Global;
@@ -36,7 +36,7 @@ pub struct AppendNode {
 impl Model for AppendNode {
     ghost use Rattle.bsp_core.specs.Views.{View};
     ghost use Rattle.append_node.specs.Node.{AppendState};
-    ghost use Rattle.append_node.specs.Kept.{Kept};
+    ghost use Rattle.append_node.specs.Kept.{KeptNode};
 
     ghost Value = { View AppendState };
 
@@ -51,7 +51,7 @@ impl Model for AppendNode {
       };
     } };
 
-    ghost invariant = { λ s. Kept s };
+    ghost invariant = { λ s. KeptNode s };
 }
 
 impl AppendNode {

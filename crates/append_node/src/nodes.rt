@@ -4,13 +4,13 @@ ghost use Rattle.bsp_core.specs.Views.{View};
 ghost use Rattle.chaos_dist.specs.Layout.{elements_of};
 ghost use Rattle.chaos_dist.specs.declared.shape.Shape.TheVariants.{Block};
 ghost use Rattle.chaos_bins.specs.Plan.{append_rows};
-ghost use Rattle.append_node.specs.Dealing.{number_at};
+ghost use Rattle.chaos_bins.specs.Rows.{number_at};
 ghost use Rattle.append_node.specs.Ending.{NodesEndWithTheLines};
 ghost use Rattle.append_node.specs.Node.{AppendState, append_holds, plan_of};
 
-use crate::parts::at;
 use crate::{AppendJob, AppendNode};
 use bsp_core::NodeList;
+use chaos_bins::at;
 use chaos_dist::{Regular, Shape};
 use fd_words::{Memory, Numbers};
 use std::alloc::Global;

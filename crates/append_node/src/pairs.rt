@@ -5,7 +5,7 @@ ghost use Rattle.chaos_bins.specs.Lines.{through};
 ghost use Rattle.chaos_bins.specs.Plan.{flat, pairs_in};
 ghost use Rattle.append_node.specs.Keys.{limit, pair_of};
 
-use crate::parts::at;
+use chaos_bins::at;
 use fd_words::{Memory, Numbers};
 use std::alloc::Global;
 use std::marker::Model;

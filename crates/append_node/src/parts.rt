@@ -1,15 +1,7 @@
 ghost use Rattle.std.specs.Prelude.{◌≡◌, ◌-◌, nat_lt, if◌then◌else◌};
 ghost use Rattle.chaos_bins.specs.Coming.{part_of, told as the_told};
-ghost use Rattle.append_node.specs.Dealing.{number_at};
 
 use chaos_letter::Letter;
-
-/// The number at a place, 0 from the end on.
-pub fn at(numbers: &[i64], place: usize) -> i64
-    ensures { result ≡ number_at numbers.now place }
-{
-    numbers.get(place).copied().unwrap_or(0)
-}
 
 /// Where the letter of a node stands among those of all nodes but `me`.
 fn place_among(me: u32, node: u32) -> usize

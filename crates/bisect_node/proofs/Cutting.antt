@@ -3,7 +3,7 @@ use Rattle.std.proofs.Common.{◌≡◌, ℕ, ◌+◌, ◌*◌, ◌<◌, ℤ, Bo
 use Rattle.std.specs.Prelude.{nat_lt}
 use Rattle.std.proofs.lemmas.List.{append_assoc, drop_more}
 use Rattle.chaos_letter.specs.declared.letter.Letter.{Letter}
-use Rattle.bisect_node.specs.Steps.{cut_by, cut_pieces, cuts_from, halves_by, place_after}
+use Rattle.bisect_node.specs.Steps.{cut_by, cut_pieces, cuts_from, halves_by, place_past}
 use Rattle.bisect_node.specs.declared.cuts.Cut.{Cut}
 use Rattle.bisect_node.specs.declared.pieces.Piece.{Piece}
 
@@ -18,10 +18,10 @@ module _ (axes : ℕ) (told : List ℤ) (got : List Letter) (pieces : List Piece
   rest = drop (i + 1) pieces
 
   pub cuts_then : (new : List Cut) (after : ℕ) → nat_lt 1 piece.parts ≡ true → new ≡ cuts ++ cut_by axes told got base piece ∷ []
-      → after ≡ place_after base (2 * axes) → new ++ cuts_from axes told got after rest ≡ all
+      → after ≡ place_past base (2 * axes) → new ++ cuts_from axes told got after rest ≡ all
   cuts_then new after cut more place =
       let one = cut_by axes told got base piece in
-      let later = cuts_from axes told got (place_after base (2 * axes)) rest in
+      let later = cuts_from axes told got (place_past base (2 * axes)) rest in
       ap (λ (l : List Cut). l ++ cuts_from axes told got after rest) more
       ∙ ap (λ n. (cuts ++ one ∷ []) ++ cuts_from axes told got n rest) place
       ∙ append_assoc cuts (one ∷ []) later
@@ -33,7 +33,7 @@ module _ (axes : ℕ) (told : List ℤ) (got : List Letter) (pieces : List Piece
       → new ++ cuts_from axes told got after rest ≡ all
   cuts_else new after cut same place =
       let one = cut_by axes told got base piece in
-      let later = cuts_from axes told got (place_after base (2 * axes)) rest in
+      let later = cuts_from axes told got (place_past base (2 * axes)) rest in
       ap (λ (l : List Cut). l ++ cuts_from axes told got after rest) same
       ∙ ap (λ n. cuts ++ cuts_from axes told got n rest) place
       ∙ sym (ap (λ (l : List Piece). cuts ++ cuts_from axes told got base l) (next-piece pieces i piece less is)

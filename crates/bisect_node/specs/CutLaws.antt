@@ -10,7 +10,7 @@ use Rattle.chaos_cut.specs.KeyLaws.{IsElement}
 use Rattle.chaos_cut.specs.Regions.{AreSigned, AreSome, halves_have_sizes, keys_cut}
 use Rattle.bisect_node.specs.Indexed.{filter_from-made}
 use Rattle.bisect_node.specs.ListLaws.{all-weaker, drop-first, filter-agree, filter-swap, get-first, get-made}
-use Rattle.bisect_node.specs.Plans.{BisectPlan, coordinates_of, owned, owner_in}
+use Rattle.bisect_node.specs.Plans.{BisectPlan, coordinates_of, owned, owner_by_block}
 use Rattle.bisect_node.specs.States.{cut_of, piece_of}
 use Rattle.bisect_node.specs.Steps.{cut_or_none, cut_pieces, first_piece, found_or_none, goes, goes_by, kept, kept_lists, no_cut}
 use Rattle.bisect_node.specs.Steps.{second_piece}
@@ -19,8 +19,8 @@ use Rattle.bisect_node.specs.declared.pieces.Piece.{Piece}
 
 -- ---- numbers of elements that go to a half
 
-is_over : (k v : ℕ) → nat_lt v k ≡ not (nat_le k v)
-is_over k v = grind (arith, nat_tests)
+is_above : (k v : ℕ) → nat_lt v k ≡ not (nat_le k v)
+is_above k v = grind (arith, nat_tests)
 
 -- whether an element with this key goes to a half
 abbrev pub by_key : Bool → ℕ → ℕ → Bool
@@ -30,7 +30,7 @@ by_key false found key = not (nat_le key found)
 goes-at : (first : Bool) (key : ℕ → ℕ) (found : ℕ) (elements : List ℕ) (k g : ℕ) → slice_get elements k ≡ Some g
     → goes first (map key elements) found k ≡ by_key first found (key g)
 goes-at true key found elements k g e = ap (goes_by true found) (get-made key elements k g e)
-goes-at false key found elements k g e = ap (goes_by false found) (get-made key elements k g e) ∙ is_over (key g) found
+goes-at false key found elements k g e = ap (goes_by false found) (get-made key elements k g e) ∙ is_above (key g) found
 
 pub kept-made : (first : Bool) (key : ℕ → ℕ) (found : ℕ) (make : ℕ → ℤ) (elements : List ℕ)
     → kept first (map key elements) found (map make elements) ≡ map make (filter (λ g. by_key first found (key g)) elements)
@@ -77,8 +77,8 @@ module _ (plan : BisectPlan) (signed : AreSigned plan.axes) (few : plan.count �
     own-first : filter (λ g. by_key true (found_of region) (key g)) (owned plan p region.elements) ≡ owned plan p
         (first_half plan.axes region).elements
     own-first =
-        filter-swap (λ g. by_key true (found_of region) (key g)) (λ g. owner_in plan g == p) region.elements
-        ∙ ap (filter (λ g. owner_in plan g == p))
+        filter-swap (λ g. by_key true (found_of region) (key g)) (λ g. owner_by_block plan g == p) region.elements
+        ∙ ap (filter (λ g. owner_by_block plan g == p))
         (filter-agree (λ g. by_key true (found_of region) (key g)) (goes_first plan.axes region) region.elements
         (all-weaker IsElement (λ g. by_key true (found_of region) (key g) ≡ goes_first plan.axes region g) region.elements
         (λ g is. sym (keys_cut plan.axes plan.count region g signed few h.are is two h.enough)) h.all))
@@ -86,8 +86,8 @@ module _ (plan : BisectPlan) (signed : AreSigned plan.axes) (few : plan.count �
     own-second : filter (λ g. by_key false (found_of region) (key g)) (owned plan p region.elements) ≡ owned plan p
         (second_half plan.axes region).elements
     own-second =
-        filter-swap (λ g. by_key false (found_of region) (key g)) (λ g. owner_in plan g == p) region.elements
-        ∙ ap (filter (λ g. owner_in plan g == p))
+        filter-swap (λ g. by_key false (found_of region) (key g)) (λ g. owner_by_block plan g == p) region.elements
+        ∙ ap (filter (λ g. owner_by_block plan g == p))
         (filter-agree (λ g. by_key false (found_of region) (key g)) (λ g. not (goes_first plan.axes region g)) region.elements
         (all-weaker IsElement (λ g. by_key false (found_of region) (key g) ≡ not (goes_first plan.axes region g)) region.elements
         (λ g is. ap not (sym (keys_cut plan.axes plan.count region g signed few h.are is two h.enough))) h.all))

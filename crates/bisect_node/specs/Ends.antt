@@ -1,5 +1,5 @@
 -- What the ends of phases make of a node, whatever the letters are.
-use Rattle.std.specs.Prelude.{◌≡◌, ℕ, ℤ, ◌+◌, ◌-◌, ◌^◌, ◌≤◌, ◌==◌, nat_lt, if◌then◌else◌, List, [], length, map, vec_capacity}
+use Rattle.std.specs.Prelude.{◌≡◌, ℕ, ℤ, ◌+◌, ◌-◌, ◌^◌, ◌≤◌, ◌==◌, nat_lt, if◌then◌else◌, List, [], ◌++◌, length, map, vec_capacity}
 use Rattle.chaos_letter.specs.declared.letter.Letter.{Letter}
 use Rattle.chaos_letter.specs.declared.wanted.Wanted.{Wanted}
 use Rattle.bsp_core.specs.Views.{Face, View}
@@ -7,7 +7,7 @@ use Rattle.bsp_desk.specs.Picks.{picked}
 use Rattle.bsp_desk.specs.Ways.{letter_as, sends}
 use Rattle.bsp_desk.specs.declared.desk.Phase.{Phase}
 use Rattle.chaos_cut.specs.Bisection.{levels_of}
-use Rattle.bisect_node.specs.Printing.{rows_on, text_from}
+use Rattle.bisect_node.specs.Printing.{lines_of, lines_told, rows_on}
 use Rattle.bisect_node.specs.Stages.{phases_of, stage_of, wanted_in, way_of}
 use Rattle.bisect_node.specs.States.{BisectState}
 use Rattle.bisect_node.specs.Steps.{counted, cut_pieces, cuts_from, found_by, told_of_pieces}
@@ -114,19 +114,25 @@ after_rank bits v =
     let found = found_behind bits v.state.work v.face.got in
     if nat_lt bits 83 then ranked_again bits found v else cut_at found v
 
-abbrev pub text_behind : Face → Work → List ℕ
-text_behind v work = if v.me == 0 then text_from work.told v.got else work.text
-
-abbrev pub after_print : View BisectState → View BisectState
-after_print v =
+-- no phase is left; node 0 has written two texts, one behind the other
+abbrev pub printed : List ℕ → List ℕ → View BisectState → View BisectState
+printed first second v =
     let work = v.state.work in
+    let text = if v.face.me == 0 then first ++ second else work.text in
     record {
       face = record { me = v.face.me; count = v.face.count; left = 0; out = []; due = []; got = [] };
       state = record {
         job = v.state.job;
-        work = record { pieces = work.pieces; cuts = work.cuts; found = work.found; told = work.told; text = text_behind v.face work };
+        work = record { pieces = work.pieces; cuts = work.cuts; found = work.found; told = work.told; text = text };
       };
     }
+
+-- the lines of its own rows, on node 0
+abbrev pub own_lines : View BisectState → List ℕ
+own_lines v = if v.face.me == 0 then lines_of v.state.work.told else []
+
+abbrev pub after_print : View BisectState → View BisectState
+after_print v = printed (lines_of v.state.work.told) (lines_told v.face.got) v
 
 -- what a work makes of a node
 abbrev pub worked_in : Stage → View BisectState → View BisectState

@@ -47,15 +47,15 @@ pub record IsOfJob (job : Job) (plan : BisectPlan) : Type 0 where
 
 -- ---- elements of nodes
 
-abbrev pub owner_in : BisectPlan → ℕ → ℕ
-owner_in plan g = owner_of Block plan.count plan.nodes g
+abbrev pub owner_by_block : BisectPlan → ℕ → ℕ
+owner_by_block plan g = owner_of Block plan.count plan.nodes g
 
 -- the elements of a node, and those of some elements that it has
-abbrev pub elements_on : BisectPlan → ℕ → List ℕ
-elements_on plan p = elements_of Block plan.count plan.nodes p
+abbrev pub own_elements : BisectPlan → ℕ → List ℕ
+own_elements plan p = elements_of Block plan.count plan.nodes p
 
 abbrev pub owned : BisectPlan → ℕ → List ℕ → List ℕ
-owned plan p elements = owned_by (owner_in plan) elements p
+owned plan p elements = owned_by (owner_by_block plan) elements p
 
 -- for each axis the coordinates of these elements
 abbrev pub coordinates_of : Axes → List ℕ → List (List ℤ)
@@ -89,13 +89,13 @@ part_rows plan elements = flat_map (λ g. pos g ∷ pos (part_in_plan plan g) �
 abbrev pub numbers_in : BisectPlan → ℕ → ℕ → Stage → List ℤ
 numbers_in plan level p Spread = flat_map (λ region. spread_numbers plan.axes (owned plan p region.elements)) (open_at plan level)
 numbers_in plan level p (Rank bits) = map (λ region. pos (rank_of plan p bits region)) (open_at plan level)
-numbers_in plan level p Print = part_rows plan (elements_on plan p)
+numbers_in plan level p Print = part_rows plan (own_elements plan p)
 
 -- how many numbers these are, where that is fixed
-abbrev pub count_in : BisectPlan → ℕ → Stage → ℕ
-count_in plan level Spread = 2 * length plan.axes * length (open_at plan level)
-count_in plan level (Rank bits) = length (open_at plan level)
-count_in plan level Print = 0
+abbrev pub count_in_stage : BisectPlan → ℕ → Stage → ℕ
+count_in_stage plan level Spread = 2 * length plan.axes * length (open_at plan level)
+count_in_stage plan level (Rank bits) = length (open_at plan level)
+count_in_stage plan level Print = 0
 
 abbrev pub stage_in : BisectPlan → ℕ → Stage
 stage_in plan t = stage_of (levels_of plan.parts) t
@@ -105,7 +105,7 @@ abbrev pub numbers_at : BisectPlan → ℕ → ℕ → List ℤ
 numbers_at plan t p = numbers_in plan (level_of t) p (stage_in plan t)
 
 abbrev pub wanted_at : BisectPlan → ℕ → Wanted
-wanted_at plan t = wanted_in (length plan.axes) (count_in plan (level_of t) (stage_in plan t)) t (stage_in plan t)
+wanted_at plan t = wanted_in (length plan.axes) (count_in_stage plan (level_of t) (stage_in plan t)) t (stage_in plan t)
 
 abbrev pub round_at : BisectPlan → ℕ → Round
 round_at plan t = record {

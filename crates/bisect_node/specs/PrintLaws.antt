@@ -13,7 +13,7 @@ use Rattle.chaos_dist.specs.declared.shape.Shape.TheVariants.{Block}
 use Rattle.chaos_cut.specs.Bisection.{Region}
 use Rattle.list_laws.specs.Counts.{count_by-filter, first_counted}
 use Rattle.chaos_cut.specs.Cover.{elements_in, count-first, regions_cover}
-use Rattle.bisect_node.specs.Plans.{BisectPlan, owned, owner_in, part_in_plan, regions_in}
+use Rattle.bisect_node.specs.Plans.{BisectPlan, owned, owner_by_block, part_in_plan, regions_in}
 use Rattle.bisect_node.specs.Printing.{marked, marked_all, marked_pieces, parts_on}
 use Rattle.bisect_node.specs.States.{piece_of, pieces_of}
 
@@ -38,7 +38,7 @@ module _ (plan : BisectPlan) (p : ℕ) where
   pub record IsOwn (x : ℕ) : Type 0 where
     pub some : 1 ≤ x
     pub within : x ≤ plan.count
-    pub owner : owner_in plan x ≡ p
+    pub owner : owner_by_block plan x ≡ p
 
   abbrev local : ℕ → ℕ
   local x = local_of Block plan.count plan.nodes x
@@ -149,20 +149,21 @@ module _ (plan : BisectPlan) (p : ℕ) where
   -- ---- each of the node's elements is marked
 
   owned-count : (g : ℕ) (regions : List Region)
-      → count_by (λ y. y == g) (all_owned regions) ≡ count_by (λ x. (owner_in plan x == p) && (x == g)) (elements_in regions)
+      → count_by (λ y. y == g) (all_owned regions) ≡ count_by (λ x. (owner_by_block plan x == p) && (x == g)) (elements_in regions)
   owned-count g [] = refl
   owned-count g (region ∷ regions) =
       sum_by-append (λ y. cond (y == g) 1 0) (owned plan p region.elements) (all_owned regions)
-      ∙ ap (λ n. n + count_by (λ y. y == g) (all_owned regions)) (count_by-filter (λ x. owner_in plan x == p) (λ y. y == g) region.elements)
-      ∙ ap (λ n. count_by (λ x. (owner_in plan x == p) && (x == g)) region.elements + n) (owned-count g regions)
-      ∙ sym (count-first (λ x. (owner_in plan x == p) && (x == g)) region regions)
+      ∙ ap (λ n. n + count_by (λ y. y == g) (all_owned regions))
+      (count_by-filter (λ x. owner_by_block plan x == p) (λ y. y == g) region.elements)
+      ∙ ap (λ n. count_by (λ x. (owner_by_block plan x == p) && (x == g)) region.elements + n) (owned-count g regions)
+      ∙ sym (count-first (λ x. (owner_by_block plan x == p) && (x == g)) region regions)
 
   itself : (n : ℕ) → (n == n) ≡ true
   itself n = grind (arith, nat_tests)
 
   is-counted : (g level : ℕ) → IsOwn g → 0 < count_by (λ y. y == g) (all_owned (regions_in plan level))
   is-counted g level own =
-      let test = λ (x : ℕ). (owner_in plan x == p) && (x == g) in
+      let test = λ (x : ℕ). (owner_by_block plan x == p) && (x == g) in
       let passes : test g ≡ true = ap (λ q. (q == p) && (g == g)) own.owner ∙ ap (λ b. b && (g == g)) (itself p) ∙ itself g in
       let more = count_up_to-passes test g plan.count own.some own.within passes in
       omega (

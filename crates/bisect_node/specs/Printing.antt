@@ -40,6 +40,9 @@ number_line number = signed_decimal number ++ 10 ∷ []
 abbrev pub lines_of : List ℤ → List ℕ
 lines_of rows = flat_map number_line (filter_from (λ k. k % 2 == 1) 0 rows)
 
--- of a node's own rows and those of the letters
+-- of the rows of letters, and of a node's own rows and those
+abbrev pub lines_told : List Letter → List ℕ
+lines_told got = flat_map (λ (letter : Letter). lines_of letter.numbers) got
+
 abbrev pub text_from : List ℤ → List Letter → List ℕ
-text_from own got = lines_of own ++ flat_map (λ (letter : Letter). lines_of letter.numbers) got
+text_from own got = lines_of own ++ lines_told got

@@ -9,14 +9,16 @@ use Rattle.std.proofs.lemmas.Nat.{pow-add}
 use Rattle.chaos_letter.specs.declared.wanted.Wanted.{Wanted}
 use Rattle.bsp_desk.specs.Ways.{letter_as}
 use Rattle.chaos_cut.specs.Bisection.{Region, cut_axis, cut_size}
+use Rattle.chaos_cut.specs.Choices.{next_by, tried}
 use Rattle.list_laws.specs.Counts.{count_by-map, first_counted}
 use Rattle.chaos_cut.specs.Keys.{candidate_in, found_after, found_in, key_in, keys_below, next_found}
 use Rattle.chaos_cut.specs.Told.{AreOwned, others, counts_add_up}
 use Rattle.bisect_node.specs.ListLaws.{all-at, get-made, told_fold}
 use Rattle.bisect_node.specs.Indexed.{map_from-made}
-use Rattle.bisect_node.specs.Plans.{BisectPlan, owned, owner_in, rank_of}
+use Rattle.bisect_node.specs.Plans.{BisectPlan, owned, owner_by_block, rank_of}
 use Rattle.bisect_node.specs.States.{cut_of}
-use Rattle.bisect_node.specs.Steps.{count_under, counted, found_by, found_or_none, next_by, number_at, summed, tried}
+use Rattle.bisect_node.specs.Steps.{count_under, counted, found_by, found_or_none, number_at, summed}
+use Rattle.chaos_dist.specs.Counting.{one_at_most}
 
 -- ---- numbers found are small
 
@@ -48,10 +50,6 @@ tried_is : (found power : ℕ) → found + power ≤ 2 ^ 84 → tried power foun
 tried_is found power small = omega (arith, small)
 
 -- ---- sums
-
-one_at_most : (b : Bool) → cond b 1 0 ≤ 1
-one_at_most true = omega arith
-one_at_most false = omega arith
 
 fold-grows : (a : ℕ) (xs : List ℕ) → a ≤ fold (λ b x. b + x) a xs
 fold-grows a [] = omega arith
@@ -90,21 +88,21 @@ module _ (plan : BisectPlan) (p bits : ℕ) (less : p < plan.nodes) (few : bits 
 
   -- the sum of all is how many of the region's elements have a key below the candidate
   summed-is : (wanted : Wanted) (j : ℕ) (region : Region) → slice_get regions j ≡ Some region
-      → AreOwned (owner_in plan) plan.nodes region.elements → length region.elements < 2 ^ 63
+      → AreOwned (owner_by_block plan) plan.nodes region.elements → length region.elements < 2 ^ 63
       → summed (told p) (map (λ q. letter_as wanted (told q)) (others plan.nodes p)) j
       ≡ pos (keys_below (cut_axis plan.axes region) region.elements (candidate_in plan.axes region bits))
   summed-is wanted j region e are small =
       let n = plan.nodes in
       let axis = cut_axis plan.axes region in
       let v = candidate_in plan.axes region bits in
-      let all = counts_add_up (owner_in plan) (λ g. nat_lt (key_in axis g) v) n p region.elements less are in
+      let all = counts_add_up (owner_by_block plan) (λ g. nat_lt (key_in axis g) v) n p region.elements less are in
       let most = counted-most (λ g. nat_lt (key_in axis g) v) region.elements in
       told_fold plus_kept wanted told (λ q. pos (rank_of plan q bits region)) j p (others n p) (told-at j region e)
       ∙ sum_kept (λ q. rank_of plan q bits region) (rank_of plan p bits region) (others n p) (omega (arith, all, most, small))
       ∙ ap pos all
 
   -- what is found next of each cut
-  pub found-next : (wanted : Wanted) → AllByRecursion (λ region. AreOwned (owner_in plan) plan.nodes region.elements
+  pub found-next : (wanted : Wanted) → AllByRecursion (λ region. AreOwned (owner_by_block plan) plan.nodes region.elements
       × (length region.elements < 2 ^ 63)) regions
       → found_by (2 ^ (83 - bits)) (told p) (map (λ q. letter_as wanted (told q)) (others plan.nodes p)) (map (cut_of plan p) regions)
       (founds bits)
@@ -118,7 +116,8 @@ module _ (plan : BisectPlan) (p bits : ℕ) (less : p < plan.nodes) (few : bits 
       let f = keys_below (cut_axis plan.axes region) region.elements in
       let c = cut_size region in
       let found = found_in plan.axes region bits in
-      let is = all-at (λ region. AreOwned (owner_in plan) plan.nodes region.elements × (length region.elements < 2 ^ 63)) j region regions
+      let is = all-at (λ region. AreOwned (owner_by_block plan) plan.nodes region.elements × (length region.elements < 2 ^ 63))
+      j region regions
       all e in
       let next : bits + 1 ≡ suc bits = omega arith in
       let power : 83 - bits ≡ 84 - suc bits = omega arith in

@@ -13,17 +13,10 @@ use Rattle.chaos_cut.specs.Regions.{AreSome, IsSound, regions_are_sound}
 use Rattle.chaos_cut.specs.Told.{AreOwned}
 use Rattle.bisect_node.specs.CutLaws.{IsCuttable}
 use Rattle.bisect_node.specs.ListLaws.{all-filter, all-weaker, length-filter-le}
-use Rattle.bisect_node.specs.Plans.{BisectPlan, IsBisectPlan, open_at, owner_in, part_in_plan, regions_in}
+use Rattle.bisect_node.specs.Plans.{BisectPlan, IsBisectPlan, open_at, owner_by_block, part_in_plan, regions_in}
+use Rattle.chaos_cut.specs.Regions.{all_range}
 
 -- ---- lists
-
-all_range : (a n : ℕ) → AllByRecursion (λ x. (a ≤ x) × (x < a + n)) (range_with_len a n)
-all_range a zero = tt
-all_range a (suc n) = ((omega arith, omega arith), weaker (range_with_len (a + 1) n) (all_range (a + 1) n))
-  where
-    weaker : (xs : List ℕ) → AllByRecursion (λ x. (a + 1 ≤ x) × (x < a + 1 + n)) xs → AllByRecursion (λ x. (a ≤ x) × (x < a + suc n)) xs
-    weaker [] all = tt
-    weaker (x ∷ xs) all = ((omega (arith, all.0.0), omega (arith, all.0.1)), weaker xs all.1)
 
 -- ---- parts one after another
 
@@ -51,7 +44,7 @@ consecutive-few low high (region ∷ regions) some are =
 -- what holds of each
 pub record IsRegion (plan : BisectPlan) (depth : ℕ) (region : Region) : Type 0 where
   pub cuttable : IsCuttable plan region
-  pub owned : AreOwned (owner_in plan) plan.nodes region.elements
+  pub owned : AreOwned (owner_by_block plan) plan.nodes region.elements
   pub long : length region.elements ≤ plan.count
   pub within : AllByRecursion (λ x. (1 ≤ x) × (x < 1 + plan.count)) region.elements
   pub some : 1 ≤ region.parts
@@ -80,9 +73,9 @@ module _ (plan : BisectPlan) (h : IsBisectPlan plan) where
       all-weaker (λ x. (1 ≤ x) × (x < 1 + plan.count)) IsElement elements (λ x is. (is.0, omega (arith, is.1, h.few_elements)))
       (within elements are)
 
-  pub owners-are : (elements : List ℕ) → AreSome plan.count elements → AreOwned (owner_in plan) plan.nodes elements
+  pub owners-are : (elements : List ℕ) → AreSome plan.count elements → AreOwned (owner_by_block plan) plan.nodes elements
   owners-are elements are =
-      all-weaker (λ x. (1 ≤ x) × (x < 1 + plan.count)) (λ x. owner_in plan x < plan.nodes) elements
+      all-weaker (λ x. (1 ≤ x) × (x < 1 + plan.count)) (λ x. owner_by_block plan x < plan.nodes) elements
       (λ x is. owner_of-below Block plan.count plan.nodes x h.some_nodes (omega (arith, is.1)) is.0) (within elements are)
 
   both : (depth : ℕ) (regions : List Region)

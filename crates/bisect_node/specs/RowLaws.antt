@@ -11,7 +11,8 @@ use Rattle.bsp_desk.specs.Ways.{letter_as, not_to_self}
 use Rattle.chaos_dist.specs.LayoutLaws.{length-elements_of, length_of-le}
 use Rattle.chaos_dist.specs.declared.shape.Shape.TheVariants.{Block}
 use Rattle.chaos_cut.specs.Bisection.{Axes, Region}
-use Rattle.bisect_node.specs.Plans.{BisectPlan, IsBisectPlan, bisect_rows, count_in, elements_on, numbers_in, open_at, owned, part_rows}
+use Rattle.bisect_node.specs.Plans.{BisectPlan, IsBisectPlan, bisect_rows, count_in_stage, own_elements, numbers_in, open_at, owned}
+use Rattle.bisect_node.specs.Plans.{part_rows}
 use Rattle.bisect_node.specs.Plans.{rank_of, round_at, spread_numbers, stage_in}
 use Rattle.bisect_node.specs.Stages.{level_of, phases_of, wanted_in, way_of}
 use Rattle.bisect_node.specs.declared.stage.Stage.{Stage}
@@ -37,7 +38,7 @@ length-part_rows plan (g ∷ elements) = omega (arith, length-part_rows plan ele
 -- ---- rounds
 
 fits_in : (plan : BisectPlan) → IsBisectPlan plan → (level t p : ℕ) (stage : Stage)
-    → let wanted = wanted_in (length plan.axes) (count_in plan level stage) t stage in
+    → let wanted = wanted_in (length plan.axes) (count_in_stage plan level stage) t stage in
     Fits wanted (letter_as wanted (numbers_in plan level p stage))
 fits_in plan h level t p Spread =
     let e = length-spreads plan.axes (λ region. owned plan p region.elements) (open_at plan level) in
@@ -56,8 +57,8 @@ fits_in plan h level t p (Rank bits) =
       count = record { groups = (length (open_at plan level), e ∙ omega arith); least = omega (arith, e); most = omega (arith, e) };
     }
 fits_in plan h level t p Print =
-    let e = length-part_rows plan (elements_on plan p) in
-    let few : length (elements_on plan p) ≤ plan.count = omega (
+    let e = length-part_rows plan (own_elements plan p) in
+    let few : length (own_elements plan p) ≤ plan.count = omega (
       arith,
       length-elements_of Block plan.count plan.nodes p,
       length_of-le Block plan.count plan.nodes p,
@@ -67,7 +68,7 @@ fits_in plan h level t p Print =
       execution = refl;
       site = refl;
       count = record {
-        groups = (length (elements_on plan p), e ∙ omega arith);
+        groups = (length (own_elements plan p), e ∙ omega arith);
         least = omega arith;
         most = omega (arith, e, few, h.few_elements);
       };

@@ -16,10 +16,10 @@ use Rattle.chaos_cut.specs.Bisection.{widest_axis}
 use Rattle.chaos_cut.specs.Keys.{key_in, key_of}
 use Rattle.chaos_cut.specs.Told.{AreOwned, others, greatest_is_told, least_is_told}
 use Rattle.bisect_node.specs.ListLaws.{all-at, get-drop, get-made, get-nil, get-within, map-below, told_fold}
-use Rattle.bisect_node.specs.Plans.{BisectPlan, coordinates_of, owned, owner_in, spread_numbers}
+use Rattle.bisect_node.specs.Plans.{BisectPlan, coordinates_of, owned, owner_by_block, spread_numbers}
 use Rattle.bisect_node.specs.RowLaws.{length-spread_numbers}
 use Rattle.bisect_node.specs.States.{cut_of, piece_of}
-use Rattle.bisect_node.specs.Steps.{cut_by, cuts_from, greater, greatest_in, key_at, keys_by, lesser, number_at, place_after, spread_told}
+use Rattle.bisect_node.specs.Steps.{cut_by, cuts_from, greater, greatest_in, key_at, keys_by, lesser, number_at, place_past, spread_told}
 use Rattle.bisect_node.specs.Steps.{told_of_piece, told_of_pieces, widest}
 use Rattle.bisect_node.specs.Indexed.{map_from-made}
 use Rattle.bisect_node.specs.declared.pieces.Piece.{Piece}
@@ -106,7 +106,7 @@ keys-are axes w elements all =
 
 -- ---- the cuts
 
-place-small : (base more : ℕ) → base + more < 2 ^ 64 → place_after base more ≡ base + more
+place-small : (base more : ℕ) → base + more < 2 ^ 64 → place_past base more ≡ base + more
 place-small base more small = omega (arith, small)
 
 module _ (plan : BisectPlan) (p : ℕ) (less : p < plan.nodes) (wanted : Wanted) (told : ℕ → List ℤ) where
@@ -131,7 +131,7 @@ module _ (plan : BisectPlan) (p : ℕ) (less : p < plan.nodes) (wanted : Wanted)
   number-from base region regions tell q i =
       ap (λ o. unwrap_or o (pos 0)) (get-drop base (told q) i) ∙ ap (λ l. number_at l i) (tell q)
 
-  spread-is : (base : ℕ) (region : Region) (regions : List Region) → AreOwned (owner_in plan) plan.nodes region.elements
+  spread-is : (base : ℕ) (region : Region) (regions : List Region) → AreOwned (owner_by_block plan) plan.nodes region.elements
       → TellFrom base (region ∷ regions) → IsSmall base (region ∷ regions) → (k : ℕ) (axis : List ℤ) → slice_get plan.axes k ≡ Some axis
       → spread_told (told p) letters base k ≡ spread_of axis region.elements
   spread-is base region regions are tell small k axis e =
@@ -139,23 +139,23 @@ module _ (plan : BisectPlan) (p : ℕ) (less : p < plan.nodes) (wanted : Wanted)
       let within : k < length plan.axes = get-within plan.axes k axis e in
       let room : 2 * length plan.axes * length (region ∷ regions) ≡ 2 * length plan.axes + 2 * length plan.axes * length regions =
       omega arith in
-      let first : place_after base (2 * k) ≡ base + 2 * k = place-small base (2 * k) (omega (arith, within, small, room)) in
-      let second : place_after (base + 2 * k) 1 ≡ base + (2 * k + 1) = omega (arith, within, small, room) in
+      let first : place_past base (2 * k) ≡ base + 2 * k = place-small base (2 * k) (omega (arith, within, small, room)) in
+      let second : place_past (base + 2 * k) 1 ≡ base + (2 * k + 1) = omega (arith, within, small, room) in
       let least : lesser (told p) letters (base + 2 * k) ≡ least_of axis region.elements =
       told_fold int_min wanted told (λ q. least_of axis (owned plan q region.elements)) (base + 2 * k) p (others n p)
       (λ q. number-from base region regions tell q (2 * k) ∙ least-at plan.axes (owned plan q region.elements) (spreads q regions) k axis e)
-      ∙ least_is_told axis (owner_in plan) n p region.elements less are in
+      ∙ least_is_told axis (owner_by_block plan) n p region.elements less are in
       let greatest : greater (told p) letters (base + (2 * k + 1)) ≡ greatest_of axis region.elements =
       told_fold int_max wanted told (λ q. greatest_of axis (owned plan q region.elements)) (base + (2 * k + 1)) p (others n p)
       (λ q. number-from base region regions tell q (2 * k + 1) ∙ greatest-at plan.axes (owned plan q region.elements) (spreads q regions)
       k axis e)
-      ∙ greatest_is_told axis (owner_in plan) n p region.elements less are in
-      ap (λ at. greater (told p) letters (place_after at 1) -ℤ lesser (told p) letters at) first
+      ∙ greatest_is_told axis (owner_by_block plan) n p region.elements less are in
+      ap (λ at. greater (told p) letters (place_past at 1) -ℤ lesser (told p) letters at) first
       ∙ ap (λ at. greater (told p) letters at -ℤ lesser (told p) letters (base + 2 * k)) second
       ∙ ap (λ z. z -ℤ lesser (told p) letters (base + 2 * k)) greatest
       ∙ ap (λ z. greatest_of axis region.elements -ℤ z) least
 
-  cut-is : (base : ℕ) (region : Region) (regions : List Region) → AreOwned (owner_in plan) plan.nodes region.elements
+  cut-is : (base : ℕ) (region : Region) (regions : List Region) → AreOwned (owner_by_block plan) plan.nodes region.elements
       → AreElements (owned plan p region.elements) → TellFrom base (region ∷ regions) → IsSmall base (region ∷ regions)
       → cut_by (length plan.axes) (told p) letters base (piece_of plan p region) ≡ cut_of plan p region
   cut-is base region regions are all tell small =
@@ -171,7 +171,7 @@ module _ (plan : BisectPlan) (p : ℕ) (less : p < plan.nodes) (wanted : Wanted)
 
   -- what is told of the regions behind the first
   tell-rest : (base : ℕ) (region : Region) (regions : List Region) → TellFrom base (region ∷ regions) → IsSmall base (region ∷ regions)
-      → TellFrom (place_after base (2 * length plan.axes)) regions
+      → TellFrom (place_past base (2 * length plan.axes)) regions
   tell-rest base region regions tell small q =
       let room : 2 * length plan.axes * length (region ∷ regions) ≡ 2 * length plan.axes + 2 * length plan.axes * length regions =
       omega arith in
@@ -182,16 +182,17 @@ module _ (plan : BisectPlan) (p : ℕ) (less : p < plan.nodes) (wanted : Wanted)
       ∙ drop_at numbers (spreads q regions) (2 * length plan.axes) (length-spread_numbers plan.axes (owned plan q region.elements))
 
   small-rest : (base : ℕ) (region : Region) (regions : List Region) → IsSmall base (region ∷ regions)
-      → IsSmall (place_after base (2 * length plan.axes)) regions
+      → IsSmall (place_past base (2 * length plan.axes)) regions
   small-rest base region regions small =
       let room : 2 * length plan.axes * length (region ∷ regions) ≡ 2 * length plan.axes + 2 * length plan.axes * length regions =
       omega arith in
-      let here : place_after base (2 * length plan.axes) ≡ base + 2 * length plan.axes = place-small base (2 * length plan.axes)
+      let here : place_past base (2 * length plan.axes) ≡ base + 2 * length plan.axes = place-small base (2 * length plan.axes)
       (omega (arith, small, room)) in
       omega (arith, here, small, room)
 
   pub cuts-are : (base : ℕ) (regions : List Region)
-      → AllByRecursion (λ region. AreOwned (owner_in plan) plan.nodes region.elements × AreElements (owned plan p region.elements)) regions
+      → AllByRecursion (λ region. AreOwned (owner_by_block plan) plan.nodes region.elements × AreElements (owned plan p region.elements))
+      regions
       → TellFrom base (open_in regions) → IsSmall base (open_in regions)
       → cuts_from (length plan.axes) (told p) letters base (map (piece_of plan p) regions) ≡ map (cut_of plan p) (open_in regions)
   cuts-are base [] all tell small = refl
@@ -206,13 +207,13 @@ module _ (plan : BisectPlan) (p : ℕ) (less : p < plan.nodes) (wanted : Wanted)
           → IsSmall base (cond b (region ∷ open_in regions) (open_in regions))
           → cond b
           (cut_by (length plan.axes) (told p) letters base (piece_of plan p region)
-          ∷ cuts_from (length plan.axes) (told p) letters (place_after base (2 * length plan.axes)) pieces)
+          ∷ cuts_from (length plan.axes) (told p) letters (place_past base (2 * length plan.axes)) pieces)
           (cuts_from (length plan.axes) (told p) letters base pieces)
           ≡ map (cut_of plan p) (cond b (region ∷ open_in regions) (open_in regions))
       by true rest tell small =
-          ap (λ cut. cut ∷ cuts_from (length plan.axes) (told p) letters (place_after base (2 * length plan.axes)) pieces)
+          ap (λ cut. cut ∷ cuts_from (length plan.axes) (told p) letters (place_past base (2 * length plan.axes)) pieces)
           (cut-is base region (open_in regions) all.0.0 all.0.1 tell small)
           ∙ ap (λ l. cut_of plan p region ∷ l)
-          (rest (place_after base (2 * length plan.axes)) (tell-rest base region (open_in regions) tell small)
+          (rest (place_past base (2 * length plan.axes)) (tell-rest base region (open_in regions) tell small)
           (small-rest base region (open_in regions) small))
       by false rest tell small = rest base tell small

@@ -1,13 +1,14 @@
 -- What a node makes of what it knows and of letters, at the ends of phases, whatever the letters are.
 use Rattle.std.specs.Prelude.{ℕ, ◌+◌, ◌-◌, ◌*◌, ◌/◌, ◌^◌, ◌&&◌, ℤ, pos, negsuc, ◌+ℤ◌, ◌-ℤ◌, Bool, true, false, not, if◌then◌else◌, List, []}
 use Rattle.std.specs.Prelude.{◌∷◌, ◌++◌, map}
-use Rattle.std.specs.Prelude.{fold, min, nat_lt, nat_le, int_lt, int_le, Option, Some, None, slice_get, unwrap_or, count_by, unsigned_abs}
+use Rattle.std.specs.Prelude.{fold, min, nat_lt, nat_le, int_le, Option, Some, None, slice_get, unwrap_or, count_by, unsigned_abs}
 use Rattle.std.specs.Int.{int_max, int_min, saturate_signed, w64}
 use Rattle.std.specs.List.{flat_map}
 use Rattle.fd_words.specs.Lists.{list_at}
 use Rattle.chaos_letter.specs.declared.letter.Letter.{Letter}
 use Rattle.chaos_dist.specs.Counting.{below}
 use Rattle.chaos_cut.specs.Bisection.{first_greatest, first_size}
+use Rattle.chaos_cut.specs.Choices.{next_by, tried}
 use Rattle.chaos_cut.specs.Keys.{key_of}
 use Rattle.bisect_node.specs.Indexed.{filter_from, map_from}
 use Rattle.bisect_node.specs.declared.cuts.Cut.{Cut}
@@ -33,8 +34,8 @@ abbrev pub greater : List ℤ → List Letter → ℕ → ℤ
 greater told got at = fold (λ greatest x. int_max greatest (number_in x at)) (number_at told at) got
 
 -- places don't go beyond 64 bits
-abbrev pub place_after : ℕ → ℕ → ℕ
-place_after base more = min (base + more) (2 ^ 64 - 1)
+abbrev pub place_past : ℕ → ℕ → ℕ
+place_past base more = min (base + more) (2 ^ 64 - 1)
 
 -- ---- spread
 
@@ -60,7 +61,7 @@ told_of_pieces pieces = flat_map spread_if pieces
 -- the spread on an axis, as all have told it of the region whose numbers begin at `base`
 abbrev pub spread_told : List ℤ → List Letter → ℕ → ℕ → ℤ
 spread_told told got base axis =
-    let at = place_after base (2 * axis) in greater told got (place_after at 1) -ℤ lesser told got at
+    let at = place_past base (2 * axis) in greater told got (place_past at 1) -ℤ lesser told got at
 
 abbrev pub widest : ℕ → List ℤ → List Letter → ℕ → ℕ
 widest axes told got base = first_greatest (map (λ axis. spread_told told got base axis) (below axes))
@@ -83,7 +84,7 @@ cut_by axes told got base piece = record {
 abbrev pub cuts_from : ℕ → List ℤ → List Letter → ℕ → List Piece → List Cut
 cuts_from axes told got base [] = []
 cuts_from axes told got base (piece ∷ rest) =
-    if is_open piece then cut_by axes told got base piece ∷ cuts_from axes told got (place_after base (2 * axes)) rest
+    if is_open piece then cut_by axes told got base piece ∷ cuts_from axes told got (place_past base (2 * axes)) rest
     else cuts_from axes told got base rest
 
 -- ---- keys below candidates
@@ -91,18 +92,11 @@ cuts_from axes told got base (piece ∷ rest) =
 abbrev pub found_or_none : List ℕ → ℕ → ℕ
 found_or_none found at = unwrap_or (slice_get found at) 0
 
--- the number that is tried next
-abbrev pub tried : ℕ → ℕ → ℕ
-tried power found = min (found + power) (2 ^ 128 - 1)
-
 abbrev pub count_under : List ℕ → ℕ → ℤ
 count_under keys under = pos (count_by (λ key. nat_lt key under) keys)
 
 abbrev pub counted : ℕ → List Cut → List ℕ → List ℤ
 counted power cuts found = map_from (λ at cut. count_under cut.keys (tried power (found_or_none found at))) 0 cuts
-
-abbrev pub next_by : ℕ → ℕ → ℤ → ℕ → ℕ
-next_by found power sum goal = if int_lt sum (pos goal) then tried power found else found
 
 abbrev pub found_by : ℕ → List ℤ → List Letter → List Cut → List ℕ → List ℕ
 found_by power told got cuts found = map_from (λ at cut. next_by (found_or_none found at) power (summed told got at) cut.goal) 0 cuts

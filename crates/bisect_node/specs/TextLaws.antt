@@ -22,7 +22,7 @@ use Rattle.chaos_dist.specs.declared.shape.Shape.TheVariants.{Block}
 use Rattle.chaos_cut.specs.Bisection.{Region, levels_of, part_in}
 use Rattle.bisect_node.specs.Indexed.{filter_from}
 use Rattle.bisect_node.specs.ListLaws.{all-at, all-both, all-kept, get-within}
-use Rattle.bisect_node.specs.Plans.{BisectPlan, IsBisectPlan, elements_on, owner_in, part_in_plan, part_line, part_rows, regions_in}
+use Rattle.bisect_node.specs.Plans.{BisectPlan, IsBisectPlan, own_elements, owner_by_block, part_in_plan, part_line, part_rows, regions_in}
 use Rattle.bisect_node.specs.Plans.{text_of}
 use Rattle.bisect_node.specs.PrintLaws.{ArePieces, IsOwn, parts-are}
 use Rattle.bisect_node.specs.Printing.{lines_of, number_line, parts_on, rows_on, text_from}
@@ -59,12 +59,12 @@ module _ (plan : BisectPlan) (h : IsBisectPlan plan) where
   some_elements : 1 ≤ plan.count
   some_elements = omega (arith, h.some_parts, h.enough)
 
-  own-by : (p x : ℕ) → (owner_in plan x == p) ≡ true → IsWithin x → IsOwn plan p x
-  own-by p x e is = record { some = is.0; within = omega (arith, is.1); owner = eqb-true (owner_in plan x) p e }
+  own-by : (p x : ℕ) → (owner_by_block plan x == p) ≡ true → IsWithin x → IsOwn plan p x
+  own-by p x e is = record { some = is.0; within = omega (arith, is.1); owner = eqb-true (owner_by_block plan x) p e }
 
-  owns-all : (p : ℕ) → AllByRecursion (IsOwn plan p) (elements_on plan p)
+  owns-all : (p : ℕ) → AllByRecursion (IsOwn plan p) (own_elements plan p)
   owns-all p =
-      all-kept IsWithin (IsOwn plan p) (λ g. owner_in plan g == p) (up_to plan.count) (own-by p) (within-are plan)
+      all-kept IsWithin (IsOwn plan p) (λ g. owner_by_block plan g == p) (up_to plan.count) (own-by p) (within-are plan)
 
   -- ---- what a node tells
 
@@ -73,7 +73,7 @@ module _ (plan : BisectPlan) (h : IsBisectPlan plan) where
   pieces-have p (region ∷ regions) all = (
     all-kept (λ x. IsWithin x × (part_in plan.axes 0 region x ≡ part_in_plan plan x)) (λ x. IsOwn plan p x
         × (region.first ≡ part_in_plan plan x))
-        (λ g. owner_in plan g == p) region.elements (λ x e is. (own-by p x e is.0, is.1))
+        (λ g. owner_by_block plan g == p) region.elements (λ x e is. (own-by p x e is.0, is.1))
         (all-both IsWithin (λ x. part_in plan.axes 0 region x ≡ part_in_plan plan x) region.elements all.0.within all.0.told),
     pieces-have p regions all.1,
   )
@@ -85,25 +85,25 @@ module _ (plan : BisectPlan) (h : IsBisectPlan plan) where
       (regions-are plan h (levels_of plan.parts) (omega arith))
 
   pub rows-are : (p : ℕ) → p < plan.nodes
-      → rows_on plan.count plan.nodes p (pieces_of plan (levels_of plan.parts) p) ≡ part_rows plan (elements_on plan p)
+      → rows_on plan.count plan.nodes p (pieces_of plan (levels_of plan.parts) p) ≡ part_rows plan (own_elements plan p)
   rows-are p less =
       let n = plan.nodes in
       let parts = parts_on plan.count n p (pieces_of plan (levels_of plan.parts) p) in
       let of = λ (k : ℕ). pos (element_of Block plan.count n p k) ∷ number_at parts k ∷ [] in
       ap (λ k. flat_map of (below k)) (sym (length-elements_of Block plan.count n p))
-      ∙ flat-below of (λ g. pos g ∷ pos (part_in_plan plan g) ∷ []) 0 (elements_on plan p)
+      ∙ flat-below of (λ g. pos g ∷ pos (part_in_plan plan g) ∷ []) 0 (own_elements plan p)
       (λ k g e.
       let here : 0 + k ≡ k = omega arith in
       let within : k < length_of Block plan.count n p = omega (
         arith,
-        get-within (elements_on plan p) k g e,
+        get-within (own_elements plan p) k g e,
         length-elements_of Block plan.count n p,
       ) in
       let element : element_of Block plan.count n p k ≡ g = ap (λ o. unwrap_or o 0) e in
       let width = width_of-some Block plan.count n some_elements h.some_nodes (omega arith) in
       let place : local_of Block plan.count n g ≡ k =
       sym (ap (local_of Block plan.count n) element) ∙ (place-element_of Block plan.count n p k h.some_nodes width less within).1 in
-      let right = parts-are plan p g (levels_of plan.parts) (all-at (IsOwn plan p) k g (elements_on plan p) (owns-all p) e)
+      let right = parts-are plan p g (levels_of plan.parts) (all-at (IsOwn plan p) k g (own_elements plan p) (owns-all p) e)
       (pieces-have p (regions_in plan (levels_of plan.parts)) regions-last) (length-replicate (length_of Block plan.count n p) (pos 0)) in
       ap of here
       ∙ ap (λ j. pos j ∷ number_at parts k ∷ []) element
@@ -155,33 +155,34 @@ module _ (plan : BisectPlan) (h : IsBisectPlan plan) where
   width_some : 1 ≤ divided_up plan.count plan.nodes
   width_some = width_of-some Block plan.count plan.nodes some_elements h.some_nodes (omega arith)
 
-  grows : (a : ℕ) → owner_in plan a ≤ owner_in plan (a + 1)
+  grows : (a : ℕ) → owner_by_block plan a ≤ owner_by_block plan (a + 1)
   grows a =
       let w = divided_up plan.count plan.nodes in
       le-div ((a - 1) / w) (a + 1 - 1) w (omega (arith, width_some)) (omega (arith, div-mul-le_self (a - 1) w))
 
-  ascend : (low a k : ℕ) → 1 ≤ a → low ≤ owner_in plan a → a + k ≤ plan.count + 1 → Ascends (owner_in plan) low (0 + plan.nodes)
+  ascend : (low a k : ℕ) → 1 ≤ a → low ≤ owner_by_block plan a → a + k ≤ plan.count + 1 → Ascends (owner_by_block plan) low (0 + plan.nodes)
       (range_with_len a k)
   ascend low a zero some up within = tt
   ascend low a (suc k) some up within =
-      let less : owner_in plan a < plan.nodes = owner_of-below Block plan.count plan.nodes a h.some_nodes (omega (arith, within)) some in
-      (up, omega (arith, less), ascend (owner_in plan a) (a + 1) k (omega arith) (grows a) (omega (arith, within)))
+      let less : owner_by_block plan a < plan.nodes
+      = owner_of-below Block plan.count plan.nodes a h.some_nodes (omega (arith, within)) some in
+      (up, omega (arith, less), ascend (owner_by_block plan a) (a + 1) k (omega arith) (grows a) (omega (arith, within)))
 
-  all-elements : flat_map (elements_on plan) (below plan.nodes) ≡ up_to plan.count
-  all-elements = buckets-all (owner_in plan) 0 plan.nodes (up_to plan.count) (ascend 0 1 plan.count (omega arith) (omega arith)
+  all-elements : flat_map (own_elements plan) (below plan.nodes) ≡ up_to plan.count
+  all-elements = buckets-all (owner_by_block plan) 0 plan.nodes (up_to plan.count) (ascend 0 1 plan.count (omega arith) (omega arith)
       (omega arith))
 
   pub text-is : (wanted : Wanted)
-      → text_from (part_rows plan (elements_on plan 0))
-      (map (λ q. letter_as wanted (part_rows plan (elements_on plan q))) (filter (λ q. sends ToFirst q 0) (below plan.nodes)))
+      → text_from (part_rows plan (own_elements plan 0))
+      (map (λ q. letter_as wanted (part_rows plan (own_elements plan q))) (filter (λ q. sends ToFirst q 0) (below plan.nodes)))
       ≡ text_of plan
   text-is wanted =
-      let told = λ (q : ℕ). part_rows plan (elements_on plan q) in
+      let told = λ (q : ℕ). part_rows plan (own_elements plan q) in
       let from = filter (λ q. sends ToFirst q 0) (below plan.nodes) in
       ap (λ l. lines_of (told 0) ++ l) (flat_map-map (λ (letter : Letter). lines_of letter.numbers) (λ q. letter_as wanted (told q)) from)
       ∙ all-nodes (λ q. lines_of (told q)) plan.nodes h.some_nodes
-      ∙ flat-same (λ q. lines_of (told q)) (λ q. flat_map line (elements_on plan q)) (below plan.nodes)
-      (λ q. lines-are (elements_on plan q))
-      ∙ flat-flat line (elements_on plan) (below plan.nodes)
+      ∙ flat-same (λ q. lines_of (told q)) (λ q. flat_map line (own_elements plan q)) (below plan.nodes)
+      (λ q. lines-are (own_elements plan q))
+      ∙ flat-flat line (own_elements plan) (below plan.nodes)
       ∙ ap (flat_map line) all-elements
       ∙ sym (flat_map-map part_line (part_in_plan plan) (up_to plan.count))

@@ -14,8 +14,8 @@ use Rattle.chaos_cut.specs.Keys.{found_in}
 use Rattle.chaos_cut.specs.Told.{AreOwned, others}
 use Rattle.bisect_node.specs.CutLaws.{IsCuttable, pieces-are}
 use Rattle.bisect_node.specs.Ends.{due_in, out_in, told_in}
-use Rattle.bisect_node.specs.Plans.{BisectPlan, IsBisectPlan, IsOfJob, bisect_rows, count_in, numbers_at, numbers_in, open_at, owned}
-use Rattle.bisect_node.specs.Plans.{owner_in, rank_of, regions_in, round_at, stage_in}
+use Rattle.bisect_node.specs.Plans.{BisectPlan, IsBisectPlan, IsOfJob, bisect_rows, count_in_stage, numbers_at, numbers_in, open_at, owned}
+use Rattle.bisect_node.specs.Plans.{owner_by_block, rank_of, regions_in, round_at, stage_in}
 use Rattle.bisect_node.specs.RankLaws.{counted-is, found-next}
 use Rattle.bisect_node.specs.ListLaws.{all-filter, all-weaker}
 use Rattle.bisect_node.specs.RegionFacts.{IsRegion, regions-are, regions-few}
@@ -36,7 +36,7 @@ use Rattle.bisect_node.specs.declared.work.Work.{Work}
 -- what is wanted, by the numbers that are told
 wanted-same : (plan : BisectPlan) (level t p : ℕ) (stage : Stage)
     → wanted_in (length plan.axes) (length (numbers_in plan level p stage)) t stage ≡ wanted_in (length plan.axes)
-    (count_in plan level stage) t stage
+    (count_in_stage plan level stage) t stage
 wanted-same plan level t p Spread =
     ap (λ n. wanted_in (length plan.axes) n t Spread) (length-spreads plan.axes (λ region. owned plan p region.elements)
     (open_at plan level))
@@ -117,7 +117,7 @@ module _ (plan : BisectPlan) (h : IsBisectPlan plan) (p : ℕ) (less : p < plan.
   are = regions-are plan h level low
 
   elements-owned : (region : Region) → IsRegion plan (levels - level) region → AreElements (owned plan p region.elements)
-  elements-owned region is = all-filter (λ g. (1 ≤ g) × (g ≤ 2 ^ 20)) (λ g. owner_in plan g == p) region.elements is.cuttable.all
+  elements-owned region is = all-filter (λ g. (1 ≤ g) × (g ≤ 2 ^ 20)) (λ g. owner_by_block plan g == p) region.elements is.cuttable.all
 
   -- behind the Spread
   abbrev cuts : List Cut
@@ -127,7 +127,7 @@ module _ (plan : BisectPlan) (h : IsBisectPlan plan) (p : ℕ) (less : p < plan.
       (pieces_of plan level p) ≡ cuts
   cuts-begin wanted =
       cuts-are plan p less wanted (λ q. numbers_in plan level q Spread) 0 regions
-      (all-weaker (IsRegion plan (levels - level)) (λ region. AreOwned (owner_in plan) plan.nodes region.elements
+      (all-weaker (IsRegion plan (levels - level)) (λ region. AreOwned (owner_by_block plan) plan.nodes region.elements
       × AreElements (owned plan p region.elements)) regions
       (λ region is. (is.owned, elements-owned region is)) are)
       (λ q. refl) (small (length plan.axes) (length cut_ones) h.few_axes (regions-few plan h level low))
@@ -169,9 +169,9 @@ module _ (plan : BisectPlan) (h : IsBisectPlan plan) (p : ℕ) (less : p < plan.
       ≡ found_at plan level (Rank (bits + 1))
   found-goes wanted bits few =
       found-next plan p bits less few cut_ones wanted
-      (all-filter (λ region. AreOwned (owner_in plan) plan.nodes region.elements × (length region.elements < 2 ^ 63))
+      (all-filter (λ region. AreOwned (owner_by_block plan) plan.nodes region.elements × (length region.elements < 2 ^ 63))
       (λ region. nat_lt 1 region.parts) regions
-      (all-weaker (IsRegion plan (levels - level)) (λ region. AreOwned (owner_in plan) plan.nodes region.elements
+      (all-weaker (IsRegion plan (levels - level)) (λ region. AreOwned (owner_by_block plan) plan.nodes region.elements
       × (length region.elements < 2 ^ 63)) regions
       (λ region is. (is.owned, omega (arith, is.long, h.few_elements))) are))
 

@@ -20,7 +20,7 @@ use Rattle.chaos_cut.specs.Regions.{length-range}
 use Rattle.bisect_node.specs.Ends.{IsPhaseFor, after_print, after_rank, after_spread, cut_at, due_in, entered, found_behind, next_face}
 use Rattle.bisect_node.specs.Ends.{out_in, phase_after, ranked_again, spread_work, told_begun, told_in, worked, worked_in}
 use Rattle.bisect_node.specs.ListLaws.{map-below}
-use Rattle.bisect_node.specs.Plans.{BisectPlan, IsBisectPlan, IsOfJob, bisect_rows, coordinates_of, elements_on, numbers_at, numbers_in}
+use Rattle.bisect_node.specs.Plans.{BisectPlan, IsBisectPlan, IsOfJob, bisect_rows, coordinates_of, own_elements, numbers_at, numbers_in}
 use Rattle.bisect_node.specs.Plans.{part_rows, round_at, stage_in, text_of, wanted_at}
 use Rattle.bisect_node.specs.Printing.{text_from}
 use Rattle.bisect_node.specs.StageLaws.{behind_rank, behind_ranks, behind_spread, print_at, rank_at}
@@ -203,11 +203,11 @@ module _ (plan : BisectPlan) (h : IsBisectPlan plan) (t p : ℕ) (less : p < pla
 
   -- the end
   writes : (b : Bool) → (p == 0) ≡ b
-      → cond b (text_from (part_rows plan (elements_on plan p)) (letters Print)) [] ≡ cond b (text_of plan) []
+      → cond b (text_from (part_rows plan (own_elements plan p)) (letters Print)) [] ≡ cond b (text_of plan) []
   writes true e =
       let first : p ≡ 0 = eqb-true p 0 e in
-      ap (λ k. text_from (part_rows plan (elements_on plan k))
-      (map (λ q. letter_as (wanted_at plan t) (part_rows plan (elements_on plan q)))
+      ap (λ k. text_from (part_rows plan (own_elements plan k))
+      (map (λ q. letter_as (wanted_at plan t) (part_rows plan (own_elements plan q)))
       (filter (λ q. sends ToFirst q k) (below plan.nodes)))) first
       ∙ text-is plan h (wanted_at plan t)
   writes false e = refl
@@ -231,7 +231,7 @@ module _ (plan : BisectPlan) (h : IsBisectPlan plan) (t p : ℕ) (less : p < pla
           text = λ end.
               ap (λ me. cond (me == 0) (text_from v.state.work.told v.face.got) v.state.work.text) at.me
               ∙ ap (λ (w : Work). cond (p == 0) (text_from w.told v.face.got) w.text) (work-is Print e)
-              ∙ ap (λ (g : List Letter). cond (p == 0) (text_from (part_rows plan (elements_on plan p)) g) []) (got-is Print e)
+              ∙ ap (λ (g : List Letter). cond (p == 0) (text_from (part_rows plan (own_elements plan p)) g) []) (got-is Print e)
               ∙ writes (p == 0) refl;
         },
       )
@@ -253,24 +253,24 @@ module _ (plan : BisectPlan) (h : IsBisectPlan plan) (job : Job) (of : IsOfJob j
   -- the piece of all elements
   pub whole-is : (elements : List ℤ) (own : List (List ℤ))
       → elements ≡ map (λ k. pos (element_of Block job.count job.nodes p k)) (below (length_of Block job.count job.nodes p))
-      → own ≡ coordinates_of plan.axes (elements_on plan p)
+      → own ≡ coordinates_of plan.axes (own_elements plan p)
       → record { first = 0; parts = job.parts; size = job.count; elements = elements; coordinates = own } ∷ [] ≡ pieces_of plan 0 p
   whole-is elements own listed held =
       let make = λ (parts size : ℕ) (elements : List ℤ) (coordinates : List (List ℤ)).
       let piece : Piece = record { first = 0; parts = parts; size = size; elements = elements; coordinates = coordinates } in piece ∷ [] in
-      let all : elements ≡ map pos (elements_on plan p) =
+      let all : elements ≡ map pos (own_elements plan p) =
       listed
       ∙ ap (λ n. map (λ k. pos (element_of Block n job.nodes p k)) (below (length_of Block n job.nodes p))) of.count
       ∙ ap (λ n. map (λ k. pos (element_of Block plan.count n p k)) (below (length_of Block plan.count n p))) of.nodes
       ∙ ap (λ n. map (λ k. pos (element_of Block plan.count plan.nodes p k)) (below n))
       (sym (length-elements_of Block plan.count plan.nodes p))
-      ∙ map-below (λ k. pos (element_of Block plan.count plan.nodes p k)) pos 0 (elements_on plan p)
+      ∙ map-below (λ k. pos (element_of Block plan.count plan.nodes p k)) pos 0 (own_elements plan p)
       (λ k g e. let here : 0 + k ≡ k = omega arith in ap (λ j. pos (element_of Block plan.count plan.nodes p j)) here
       ∙ ap (λ o. pos (unwrap_or o 0)) e) in
       ap (λ k. make k job.count elements own) of.parts
       ∙ ap (λ k. make plan.parts k elements own) (of.count ∙ sym (length-range plan.count 1))
       ∙ ap (λ l. make plan.parts (length (up_to plan.count)) l own) all
-      ∙ ap (λ l. make plan.parts (length (up_to plan.count)) (map pos (elements_on plan p)) l) held
+      ∙ ap (λ l. make plan.parts (length (up_to plan.count)) (map pos (own_elements plan p)) l) held
 
   pub begins : (pieces : List Piece) (told : List ℤ) (phase : Phase) (face : Face) → pieces ≡ pieces_of plan 0 p
       → told ≡ told_begun job 0 p pieces

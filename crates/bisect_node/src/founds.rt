@@ -1,9 +1,10 @@
 //! The keys of the cuts, found bit by bit.
 ghost use Rattle.std.specs.Prelude.{◌≡◌, ◌≤◌, ◌<◌, ◌-◌, ◌^◌, map, IfOk};
-ghost use Rattle.bisect_node.specs.Steps.{found_by, next_by};
+ghost use Rattle.bisect_node.specs.Steps.{found_by};
 
 use crate::cuts::{Cut, found_at};
 use crate::numbers::sum_at;
+use chaos_cut::next_found;
 use chaos_letter::Letter;
 use fd_words::{Memory, Numbers};
 use sqlite_items::Items;
@@ -25,17 +26,6 @@ pub fn zeros_of(alloc: Global, cuts: &[Cut]) -> Result<Items<u128>, Memory>
         found.push(0)?;
     }
     Ok(found)
-}
-
-/// The number found next for a cut: with the power where all have fewer keys below it than are to go first.
-fn next_found(found: u128, power: u128, sum: i64, goal: u64) -> u128
-    ensures { result ≡ next_by found power sum goal }
-{
-    if i128::from(sum) < i128::from(goal) {
-        found.saturating_add(power)
-    } else {
-        found
-    }
 }
 
 /// The numbers found next for all cuts.

@@ -1,8 +1,10 @@
 ghost use Rattle.std.specs.Prelude.{◌≡◌, ◌-◌, ◌^◌, ◌<◌, ◌≤◌, IfOk, OnOk, OnErr};
 ghost use Rattle.bsp_core.specs.Views.{Ascends, nodes_in};
 ghost use Rattle.chaos_dist.specs.declared.shape.Shape.TheVariants.{Block};
-ghost use Rattle.bisect_node.specs.Ends.{IsPhaseFor, phase_after, after_print, after_rank, after_spread, cut_at, ranked_again, told_begun};
-ghost use Rattle.bisect_node.specs.Plans.{BisectPlan, IsBisectPlan, IsOfJob, bisect_rows, coordinates_of, elements_on};
+ghost use Rattle.bisect_node.specs.Ends.{IsPhaseFor, phase_after, after_rank, after_spread, cut_at, told_begun};
+ghost use Rattle.bisect_node.specs.Ends.{own_lines, printed, ranked_again};
+ghost use Rattle.bisect_node.specs.Plans.{BisectPlan, IsBisectPlan, IsOfJob, bisect_rows, coordinates_of, own_elements};
+ghost use Rattle.bisect_node.specs.Printing.{lines_told};
 ghost use Rattle.bisect_node.specs.Stages.{phases_of};
 ghost use Rattle.bisect_node.specs.States.{BisectState, bisect_holds};
 
@@ -11,7 +13,7 @@ use crate::cuts::{counts_of, cuts_of};
 use crate::founds::{found_next, power_of, zeros_of};
 use crate::phase::phase_with;
 use crate::pieces::{Piece, cut_all};
-use crate::printing::{elements_of, rows_of, text_of};
+use crate::printing::{elements_of, own_text, rows_of, told_text};
 use crate::spread::spread_of;
 use crate::stage::{Stage, phases, stage_at};
 use crate::work::Work;
@@ -81,7 +83,7 @@ impl BisectNode {
     pub fn start(alloc: Global, job: &Job, id: u32, own: NumberLists) -> Result<BisectNode, Memory>
         requires { id < job.now.nodes }
         ensures { IfOk result (λ s. (plan : BisectPlan) → IsBisectPlan plan → IsOfJob job.now plan →
-            own ≡ coordinates_of plan.axes (elements_on plan id) →
+            own ≡ coordinates_of plan.axes (own_elements plan id) →
             (s.face ≡ bisect_rows plan 0 id) × bisect_holds plan 0 id s.state) }
     {
         let job = *job;
@@ -223,13 +225,33 @@ impl BisectNode {
         Ok(())
     }
 
-    /// The end: node 0 writes the parts.
-    fn end_print(&mut self) -> Result<(), Memory>
-        ensures ok { OnOk result (self.new ≡ after_print self.old) }
+    /// On node 0 the lines of the parts of its own elements, else none.
+    fn own_lines(&self) -> Result<Bytes, Memory>
+        ensures { IfOk result (λ text. text ≡ own_lines self.now) }
+    {
+        if self.desk.me() == 0 {
+            own_text(self.alloc, &self.work.told)
+        } else {
+            Ok(Bytes::new(self.alloc))
+        }
+    }
+
+    /// The lines of the parts that it was told.
+    fn told_lines(&self) -> Result<Bytes, Memory>
+        ensures { IfOk result (λ text. text ≡ lines_told self.now.face.got) }
+    {
+        told_text(self.alloc, self.desk.got())
+    }
+
+    /// The end: node 0 has written two texts, one behind the other.
+    fn end_print(&mut self, first: Bytes, second: Bytes) -> Result<(), Memory>
+        ensures ok { OnOk result (self.new ≡ printed first second self.old) }
         ensures err { OnErr result (self.new ≡ self.old) }
     {
         if self.desk.me() == 0 {
-            self.work.text = text_of(self.alloc, &self.work.told, self.desk.got())?;
+            let mut text = first;
+            text.append(second.as_slice())?;
+            self.work.text = text;
         }
         self.desk.put(no_phase(self.alloc));
         Ok(())
@@ -275,7 +297,11 @@ impl Phased for BisectNode {
         match stage_at(self.job.parts, self.phase()) {
             Stage::Spread => self.end_spread(),
             Stage::Rank(bits) => self.end_rank(bits),
-            Stage::Print => self.end_print(),
+            Stage::Print => {
+                let own = self.own_lines()?;
+                let told = self.told_lines()?;
+                self.end_print(own, told)
+            }
         }
     }
 

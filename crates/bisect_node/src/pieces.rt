@@ -87,14 +87,12 @@ fn first_of(alloc: Global, cut: &Cut, found: u128, piece: &Piece) -> Result<Piec
     ensures { IfOk result (λ half. half ≡ first_piece cut.now found piece.now) }
 {
     let keys = cut.keys.as_slice();
-    let elements = kept_of(alloc, true, keys, found, piece.elements.as_slice())?;
-    let coordinates = kept_lists_of(alloc, true, keys, found, &piece.coordinates)?;
     Ok(Piece {
         first: piece.first,
         parts: piece.parts / 2,
         size: cut.goal,
-        elements,
-        coordinates,
+        elements: kept_of(alloc, true, keys, found, piece.elements.as_slice())?,
+        coordinates: kept_lists_of(alloc, true, keys, found, &piece.coordinates)?,
     })
 }
 
@@ -103,14 +101,12 @@ fn second_of(alloc: Global, cut: &Cut, found: u128, piece: &Piece) -> Result<Pie
     ensures { IfOk result (λ half. half ≡ second_piece cut.now found piece.now) }
 {
     let keys = cut.keys.as_slice();
-    let elements = kept_of(alloc, false, keys, found, piece.elements.as_slice())?;
-    let coordinates = kept_lists_of(alloc, false, keys, found, &piece.coordinates)?;
     Ok(Piece {
         first: piece.first.saturating_add(piece.parts / 2),
         parts: piece.parts - piece.parts / 2,
         size: piece.size.saturating_sub(cut.goal),
-        elements,
-        coordinates,
+        elements: kept_of(alloc, false, keys, found, piece.elements.as_slice())?,
+        coordinates: kept_lists_of(alloc, false, keys, found, &piece.coordinates)?,
     })
 }
 

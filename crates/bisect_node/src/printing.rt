@@ -3,7 +3,7 @@ ghost use Rattle.std.specs.Prelude.{◌≡◌, ◌<◌, ◌^◌, ◌++◌, map, 
 ghost use Rattle.chaos_dist.specs.Counting.{below};
 ghost use Rattle.chaos_dist.specs.Layout.{element_of, length_of};
 ghost use Rattle.chaos_dist.specs.declared.shape.Shape.TheVariants.{Block};
-ghost use Rattle.bisect_node.specs.Printing.{lines_of, marked, marked_all, marked_pieces, number_line, rows_on, text_from};
+ghost use Rattle.bisect_node.specs.Printing.{lines_of, lines_told, marked, marked_all, marked_pieces, number_line, rows_on};
 
 use crate::numbers::number_at;
 use crate::pieces::Piece;
@@ -12,17 +12,6 @@ use chaos_letter::Letter;
 use fd_words::{Bytes, Memory, Numbers};
 use itoa::Buffer;
 use std::alloc::Global;
-
-/// So many zeros.
-fn zeros(alloc: Global, count: u64) -> Result<Numbers, Memory>
-    ensures { IfOk result (λ list. list ≡ replicate count (pos 0)) }
-{
-    let mut list = Numbers::new(alloc);
-    for _zero in 0..count {
-        list.push(0)?;
-    }
-    Ok(list)
-}
 
 /// Puts a part at the place of an element; nothing where there is no such element.
 fn mark(layout: Regular, parts: &mut Numbers, element: i64, part: u32)
@@ -51,7 +40,7 @@ fn parts_of(alloc: Global, layout: Regular, me: u32, pieces: &[Piece]) -> Result
     ensures { IfOk result (λ parts. parts ≡ marked_pieces layout.extent layout.nodes
         (replicate (length_of Block layout.extent layout.nodes me) (pos 0)) pieces.now) }
 {
-    let mut parts = zeros(alloc, layout.length_on(me))?;
+    let mut parts = Numbers::zeros(alloc, layout.length_on(me))?;
     for piece in pieces {
         mark_all(layout, &mut parts, piece.elements.as_slice(), piece.first);
     }
@@ -110,12 +99,20 @@ fn append_lines(text: &mut Bytes, rows: &[i64]) -> Result<(), Memory>
     Ok(())
 }
 
-/// The parts of all elements, each on a line: from a node's own rows and the letters.
-pub fn text_of(alloc: Global, own: &Numbers, got: &[Letter]) -> Result<Bytes, Memory>
-    ensures { IfOk result (λ text. text ≡ text_from own.now got.now) }
+/// The lines of a node's own rows.
+pub fn own_text(alloc: Global, own: &Numbers) -> Result<Bytes, Memory>
+    ensures { IfOk result (λ text. text ≡ lines_of own.now) }
 {
     let mut text = Bytes::new(alloc);
     append_lines(&mut text, own.as_slice())?;
+    Ok(text)
+}
+
+/// The lines of the rows of letters.
+pub fn told_text(alloc: Global, got: &[Letter]) -> Result<Bytes, Memory>
+    ensures { IfOk result (λ text. text ≡ lines_told got.now) }
+{
+    let mut text = Bytes::new(alloc);
     for letter in got {
         append_lines(&mut text, letter.numbers.as_slice())?;
     }

@@ -1,9 +1,11 @@
 //! The spread of coordinates: what a node tells of its own, and the axis that all have told.
-ghost use Rattle.std.specs.Prelude.{◌≡◌, ◌≤◌, ◌<◌, ◌++◌, ◌-ℤ◌, OnOk, IfOk};
+ghost use Rattle.std.specs.Prelude.{◌≡◌, ◌≤◌, ◌<◌, ◌++◌, OnOk, IfOk};
+ghost use Rattle.chaos_cut.specs.Choices.{extent_of};
 ghost use Rattle.bisect_node.specs.Steps.{greatest_in, least_in, spread_if, spread_told, told_of_pieces, told_of_piece, widest};
 
 use crate::numbers::{greatest_at, least_at};
 use crate::pieces::Piece;
+use chaos_cut::{Extent, extent_on, wider};
 use chaos_letter::Letter;
 use fd_words::{Memory, NumberLists, Numbers};
 use std::alloc::Global;
@@ -63,31 +65,24 @@ pub fn spread_of(alloc: Global, pieces: &[Piece]) -> Result<Numbers, Memory>
     Ok(told)
 }
 
-/// The spread on an axis, as all have told it of the region whose numbers begin at a place.
-fn spread_at(told: &Numbers, got: &[Letter], base: u64, axis: u32) -> i128
-    ensures { result ≡ spread_told told.now got.now base axis }
+/// The extent on an axis, as all have told it of the region whose numbers begin at a place.
+fn extent_at(told: &Numbers, got: &[Letter], base: u64, axis: u32) -> Extent
+    ensures { result ≡ extent_of axis (spread_told told.now got.now base axis) }
 {
     let at = base.saturating_add(2 * u64::from(axis));
     let least = least_at(told, got, at);
     let greatest = greatest_at(told, got, at.saturating_add(1));
-    i128::from(greatest) - i128::from(least)
+    extent_on(axis, least, greatest)
 }
 
 /// The axis of the greatest spread, the first on a tie.
 pub fn widest_of(axes: u32, told: &Numbers, got: &[Letter], base: u64) -> u32
     ensures { result ≡ widest axes told.now got.now base }
 {
-    if axes == 0 {
-        return 0;
-    }
-    let mut best = 0;
-    let mut most = spread_at(told, got, base, 0);
+    let mut best = extent_at(told, got, base, 0);
     for axis in 1..axes {
-        let spread = spread_at(told, got, base, axis);
-        if most < spread {
-            best = axis;
-            most = spread;
-        }
+        let next = extent_at(told, got, base, axis);
+        best = wider(best, next);
     }
-    best
+    best.axis
 }

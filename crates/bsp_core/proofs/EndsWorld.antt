@@ -15,6 +15,14 @@ stand_in : (from p n m : ℕ) (sent : List (List Letter)) (taken : List ℕ) →
     length (sent_of n sent from p) ≤ taken_of_pair n taken from p
 stand_in from p n m sent taken e h = subst (λ (z : ℕ). length (sent_of z sent from p) ≤ taken_of_pair z taken from p) (sym e) h
 
+-- some plan in which a World stands
+pub known_plan : {N S P : Type 0} (view : N → View S) (is : P → Type 0) (count : P → ℕ) (rows : P → ℕ → ℕ → Face)
+    (holds : P → ℕ → ℕ → S → Type 0) (v w : WorldState N) → v ≡ w
+    → (plan : P) × is plan × IsInLockstep view (rows plan) (holds plan) (count plan) v
+    → (plan : P) × is plan × IsInLockstep view (rows plan) (holds plan) (count plan) w
+known_plan {N} view is count rows holds v w same h =
+    (h.0, h.1, subst (λ (z : WorldState N). IsInLockstep view (rows h.0) (holds h.0) (count h.0) z) same h.2)
+
 module _ {N S : Type 0} (view : N → View S) (rows : ℕ → ℕ → Face) (holds : ℕ → ℕ → S → Type 0) (n : ℕ) (meets : (t : ℕ)
     → Meets n (rows t)) (falls : (t : ℕ) → (rows (t + 1) 0).left ≤ (rows t 0).left - 1)
     (w : WorldState N) (h : IsInLockstep view rows holds n w) where

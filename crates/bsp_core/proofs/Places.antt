@@ -137,16 +137,8 @@ pub front_is : (rows : ℕ → ℕ → Face) (n p q f g : ℕ) (u v : Face) (fro
     v.due ≡ (p, from) ∷ rest → takenq p < length (sentp q) →
     Fits from (get_or (sentp q) (takenq p) d) × (for_node q (rows f p).out ≡ get_or (sentp q) (takenq p) d ∷ [])
 front_is rows n p q f g u v from rest sentp sentq takenp takenq movesp moves d meets lp lq hu hv e more =
-    let due_is : for_node p (rows f q).due ≡ for_node p hv.fetched ++ from ∷ for_node p rest =
-    ap (for_node p) (sym hv.due) ∙ for_node-append p hv.fetched v.due
-    ∙ ap (λ (z : List Wanted). for_node p hv.fetched ++ z) (ap (for_node p) e ∙ for_node_same p p from rest refl) in
-    let served : Serves (for_node p hv.fetched ++ from ∷ for_node p rest) (for_node q (rows f p).out) =
-    subst (λ (z : List Wanted). Serves z (for_node q (rows f p).out)) due_is ((meets f).serves p q lp lq) in
-    let one : (x : Letter) × (for_node q (rows f p).out ≡ x ∷ []) × Fits from x × (for_node p hv.fetched ≡ []) × (for_node p rest ≡ []) =
-    serves_mid (for_node p hv.fetched) from (for_node p rest) (for_node q (rows f p).out) served in
-    let count : length (upto rows p q f) ≡ takenq p =
-    count_up (takenq p) (length (for_node p v.due)) 0 (upto rows p q f) (for_node q (rows f p).out) one.0 (hv.taken_is p lp) one.1
-    (ap length (ap (for_node p) e ∙ for_node_same p p from rest refl ∙ ap (λ (z : List Wanted). from ∷ z) one.4)) in
+    let one = planned_one rows n p q f v from rest sentq takenq moves meets lp lq hv e in
+    let count = one.3 in
     let here : upto rows p q (suc f) ≡ upto rows p q f ++ one.0 ∷ [] = ap (λ (z : List Letter). upto rows p q f ++ z) one.1 in
     let same : get_or (sentp q) (takenq p) d ≡ one.0 =
     elim (le_or_more f g) [

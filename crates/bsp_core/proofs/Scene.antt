@@ -2,7 +2,7 @@
 use Rattle.std.proofs.Common.{◌≡◌, ◌≢◌, ◌==◌, ℕ, suc, zero, ◌+◌, ◌*◌, ◌/◌, ◌%◌, ◌<◌, ◌≤◌, List, [], ◌∷◌, ◌++◌, inl, inr, if◌then◌else◌}
 use Rattle.std.proofs.Common.{length, get_or, set, map, slice_get, Some, refl, sym, ◌∙◌, ap, subst, arith, add-one}
 use Rattle.std.proofs.lemmas.List.{get_or-set_same, get_or-set_other, length-set, length-map, map-set}
-use Rattle.std.proofs.lemmas.Option.{slice_get_within, get_or_from_slice_get}
+use Rattle.std.proofs.lemmas.Option.{slice_get_within, slice_get_cases, slice_get_past, slice_get-get_or, get_or_from_slice_get}
 use Rattle.std.proofs.lemmas.Bool.{cases_eq}
 use Rattle.std.proofs.lemmas.Bool.Decides.{nat_tests}
 use Rattle.std.proofs.Math.Arith.{digits_div, digits_mod}
@@ -55,11 +55,11 @@ get_set_same (z ∷ zs) zero x y e = (let h : y ≡ x = cc in h)
 get_set_same (z ∷ zs) (suc i) x y e = get_set_same zs i x y e
 
 pub get_set_other : {X : Type 0} (xs : List X) (i j : ℕ) (x : X) → j ≢ i → slice_get (set xs i x) j ≡ slice_get xs j
-get_set_other [] i j x n = refl
-get_set_other (z ∷ zs) zero zero x n = absurd (n refl)
-get_set_other (z ∷ zs) zero (suc j) x n = refl
-get_set_other (z ∷ zs) (suc i) zero x n = refl
-get_set_other (z ∷ zs) (suc i) (suc j) x n = get_set_other zs i j x (λ e. n (ap suc e))
+get_set_other xs i j x n = elim (slice_get_cases xs j).1 [
+  | inl a ↦ slice_get-get_or (set xs i x) j a.0 (omega (arith, length-set xs i x, a.1))
+      ∙ ap Some (get_or-set_other xs i j x a.0 n ∙ a.3) ∙ sym a.2
+  | inr a ↦ slice_get_past (set xs i x) j (omega (arith, length-set xs i x, a.0)) ∙ sym a.1
+]
 
 -- each node stands where the plan has it
 pub stand_at : {S : Type 0} (rows : ℕ → ℕ → Face) (holds : ℕ → ℕ → S → Type 0) (n : ℕ) (views : List (View S)) (sent : List (List Letter))

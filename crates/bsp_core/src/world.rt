@@ -123,6 +123,14 @@ impl<N: Phased> World<N> {
         self.moved.len() as u64
     }
 
+    /// How many turns moved after so many.
+    fn moves_since(&self, before: u64) -> u64
+        requires { before ≤ length self.now.moved }
+        ensures { length self.now.moved ≡ before + result }
+    {
+        self.moves() - before
+    }
+
     /// One turn of a node: its next send, take or work. Only one that moved changes the World.
     pub fn turn(&mut self, node: u32) -> Result<Turned, Memory>
         requires { node < length self.old.nodes }
@@ -180,7 +188,7 @@ impl<N: Phased> World<N> {
                 Err(_) => return Err(Memory),
             }
         }
-        Ok(self.moves() - before)
+        Ok(self.moves_since(before))
     }
 
     /// A turn of each node in order, and how many moved.
@@ -225,7 +233,7 @@ impl<N: Phased> World<N> {
         let before = self.moves();
         'rounds: loop {
             match self.sweep() {
-                Ok(0) => return Ok(self.moves() - before),
+                Ok(0) => return Ok(self.moves_since(before)),
                 Ok(_) => {}
                 Err(_) => return Err(Memory),
             }
@@ -275,7 +283,7 @@ impl<N: Phased> World<N> {
             state = seed_after(state);
             let from = drawn_of(n, state);
             match self.first_from(from) {
-                Ok(0) => return Ok(self.moves() - before),
+                Ok(0) => return Ok(self.moves_since(before)),
                 Ok(_) => {}
                 Err(_) => return Err(Memory),
             }

@@ -3,8 +3,8 @@ use Rattle.std.specs.Prelude.{◌+◌, ◌^◌, ◌≤◌, ◌<◌, length, vec_
 use Rattle.bsp_core.specs.Views.{Face, Ascends, nodes_in}
 use Rattle.bsp_desk.specs.declared.desk.Desk.TheInside.{Inside}
 
-abbrev pub shown : Inside → Face
-shown s = record { me = s.me; count = s.count; left = s.left; out = s.out.items; due = s.due.items; got = s.got.items }
+abbrev pub shown_desk : Inside → Face
+shown_desk s = record { me = s.me; count = s.count; left = s.left; out = s.out.items; due = s.due.items; got = s.got.items }
 
 pub record Kept (s : Inside) : Type 0 where
   pub me : s.me < s.count

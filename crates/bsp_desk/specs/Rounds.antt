@@ -6,6 +6,7 @@ use Rattle.chaos_letter.specs.Fits.{Fits}
 use Rattle.chaos_letter.specs.declared.letter.Letter.{Letter}
 use Rattle.chaos_letter.specs.declared.wanted.Wanted.{Wanted}
 use Rattle.bsp_core.specs.Others.{each}
+use Rattle.bsp_core.specs.Resting.{rest_meets}
 use Rattle.bsp_core.specs.Views.{Face, Meets, Serves, for_node, incoming, ready}
 use Rattle.bsp_desk.specs.Picks.{picked, picked_ascends, picked_one, pick_with}
 
@@ -65,16 +66,7 @@ round_meets n left r is some = record {
 }
 
 pub over_meets : (n : ℕ) → Meets n (face_over n)
-over_meets n = record {
-  me = λ p l. refl;
-  count = λ p l. refl;
-  left = λ p l. refl;
-  got = λ p l. refl;
-  out = λ p l. tt;
-  due = λ p l. tt;
-  serves = λ p q lp lq. tt;
-  done = λ p l none. (refl, refl);
-}
+over_meets n = rest_meets n
 
 -- ---- what comes in
 

@@ -31,11 +31,11 @@ pub struct Desk {
 
 impl Model for Desk {
     ghost use Rattle.bsp_core.specs.Views.{Face};
-    ghost use Rattle.bsp_desk.specs.Kept.{Kept, shown};
+    ghost use Rattle.bsp_desk.specs.Kept.{Kept, shown_desk};
 
     ghost Value = { Face };
 
-    ghost view = { λ s. shown s };
+    ghost view = { λ s. shown_desk s };
 
     ghost invariant = { λ s. Kept s };
 }
@@ -91,20 +91,7 @@ impl Desk {
           got = [];
         } }
     {
-        let Phase {
-            left,
-            out,
-            due,
-            got,
-        } = phase;
-        *self = Desk {
-            me: self.me,
-            count: self.count,
-            left,
-            out,
-            due,
-            got,
-        };
+        *self = Desk::new(self.me, self.count, phase);
     }
 
     /// The number of the node.

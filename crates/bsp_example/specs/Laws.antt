@@ -8,14 +8,14 @@ use Rattle.std.proofs.lemmas.Bool.{cases_eq}
 use Rattle.std.proofs.lemmas.Bool.Decides.{nat_tests}
 use Rattle.chaos_letter.specs.declared.letter.Letter.{Letter}
 use Rattle.chaos_letter.specs.declared.wanted.Wanted.{Wanted}
-use Rattle.chaos_letter.specs.Fits.{Fits}
+use Rattle.chaos_letter.specs.Fits.{Fits, IsWantedLength}
 use Rattle.bsp_core.specs.Views.{Face, View, Ascends, Meets, Serves, for_node, ready, nodes_in}
 use Rattle.bsp_core.specs.Others.{others, each}
 use Rattle.bsp_core.proofs.Everyone.{others_ascend, nodes_each, all_serves, each_none, each_one, serves_by, incoming_all, others_at}
 use Rattle.bsp_core.proofs.Everyone.{others_by}
 use Rattle.bsp_core.proofs.Places.{for_node_same, for_node_other}
 use Rattle.bsp_example.specs.Rows.{VoterState, VoterPlan, either, any_below, flag_of, any_flag, voter_letter, voter_wanted, flag_in, heard}
-use Rattle.bsp_example.specs.Rows.{all_of, to_whom, from_whom, voter_out, voter_due, face_by, new_left, new_flag, left_at, flag_at}
+use Rattle.bsp_example.specs.Rows.{all_of, to_whom, from_whom, voter_out, voter_due, face_by, new_left, new_flag, left_of_vote, flag_at}
 use Rattle.bsp_example.specs.Rows.{voter_row, voter_holds}
 
 if_is : {X : Type 0} (a b : ℕ) (x y : X) → a ≡ b → (if a == b then x else y) ≡ x
@@ -25,26 +25,10 @@ if_not : {X : Type 0} (a b : ℕ) (x y : X) → a ≢ b → (if a == b then x el
 if_not a b x y e = grind (arith, nat_tests)
 
 voter_fits : (left : ℕ) (flag : Bool) → Fits (voter_wanted left) (voter_letter left flag)
-voter_fits left true = record {
-  kind = refl;
-  execution = refl;
-  site = refl;
-  count = record {
-    groups = (2, refl);
-    least = omega arith;
-    most = omega arith;
-  };
-}
-voter_fits left false = record {
-  kind = refl;
-  execution = refl;
-  site = refl;
-  count = record {
-    groups = (1, refl);
-    least = omega arith;
-    most = omega arith;
-  };
-}
+voter_fits left flag = record { kind = refl; execution = refl; site = refl; count = one_or_two flag } where
+  one_or_two : (b : Bool) → IsWantedLength (voter_wanted left) (length (voter_letter left b).numbers)
+  one_or_two true = record { groups = (2, refl); least = omega arith; most = omega arith }
+  one_or_two false = record { groups = (1, refl); least = omega arith; most = omega arith }
 
 -- whom a node sends to and takes from
 to_ascends : (left : ℕ) (all : Bool) (me n : ℕ) → me < n → Ascends me n 0 (to_whom left all me n)
@@ -128,7 +112,7 @@ voter_serves left all flag n p q lp lq =
 pub voter_meets : (plan : VoterPlan) (t : ℕ) → Meets (length plan) (voter_row plan t)
 voter_meets plan t =
     let n : ℕ = length plan in
-    let left : ℕ = left_at plan t in
+    let left : ℕ = left_of_vote plan t in
     let all : Bool = all_of left (any_flag plan) in
     record {
       me = λ p l. refl;
@@ -213,13 +197,13 @@ told_all plan p l =
     ∙ heard_all (flag_of plan) p (length plan) l
 
 abbrev pub FlagNext : VoterPlan → ℕ → ℕ → Type 0
-FlagNext plan t p = new_flag (left_at plan t) (flag_at plan t p) (ready (voter_row plan t) p).got ≡ any_flag plan
+FlagNext plan t p = new_flag (left_of_vote plan t) (flag_at plan t p) (ready (voter_row plan t) p).got ≡ any_flag plan
 
 cut_alike : (b : Bool) → all_of (if b then 1 else 0) b ≡ false
 cut_alike true = refl
 cut_alike false = refl
 
-flag_next : (plan : VoterPlan) (t p : ℕ) → p < length plan → left_at plan t ≢ 0 → FlagNext plan t p
+flag_next : (plan : VoterPlan) (t p : ℕ) → p < length plan → left_of_vote plan t ≢ 0 → FlagNext plan t p
 flag_next plan zero p l h = told_all plan p l
 flag_next plan (suc zero) p l h = refl
 flag_next plan (suc (suc zero)) p l h = one_flag (any_flag plan) (any_flag plan) (ready (voter_row plan 2) p).got where
@@ -228,7 +212,8 @@ flag_next plan (suc (suc zero)) p l h = one_flag (any_flag plan) (any_flag plan)
   one_flag false c got = refl
 flag_next plan (suc (suc (suc t))) p l h = absurd (h refl)
 
-left_next : (plan : VoterPlan) (t : ℕ) → left_at plan t ≢ 0 → new_left (left_at plan t) (any_flag plan) ≡ left_at plan (t + 1)
+left_next : (plan : VoterPlan) (t : ℕ) → left_of_vote plan t ≢ 0 → new_left (left_of_vote plan t) (any_flag plan)
+    ≡ left_of_vote plan (t + 1)
 left_next plan zero h = refl
 left_next plan (suc zero) h = refl
 left_next plan (suc (suc zero)) h = less (any_flag plan) (any_flag plan) where
@@ -244,25 +229,18 @@ pub work_row : (plan : VoterPlan) (t p : ℕ) (v : Face) (flag : Bool) → p < l
     → flag ≡ flag_at plan t p →
     (worked v (new_flag v.left flag v.got) ≡ voter_row plan (t + 1) p) × (new_flag v.left flag v.got ≡ flag_at plan (t + 1) p)
 work_row plan t p v flag l h e f =
-    let some : left_at plan t ≢ 0 = λ z. h (ap (λ (u : Face). u.left) e ∙ z) in
+    let some : left_of_vote plan t ≢ 0 = λ z. h (ap (λ (u : Face). u.left) e ∙ z) in
     let k : new_flag v.left flag v.got ≡ any_flag plan =
-    ap (λ (u : Face). new_flag u.left flag u.got) e ∙ ap (λ (b : Bool). new_flag (left_at plan t) b (ready (voter_row plan t) p).got) f
+    ap (λ (u : Face). new_flag u.left flag u.got) e ∙ ap (λ (b : Bool). new_flag (left_of_vote plan t) b (ready (voter_row plan t) p).got) f
     ∙ flag_next plan t p l some in (
       ap (worked v) k ∙ ap (λ (u : Face). worked u (any_flag plan)) e
           ∙ ap (λ (j : ℕ). face_by (length plan) p j (all_of j (any_flag plan)) (any_flag plan)) (left_next plan t some)
-          ∙ ap (λ (b : Bool). face_by (length plan) p (left_at plan (t + 1)) (all_of (left_at plan (t + 1)) (any_flag plan)) b)
+          ∙ ap (λ (b : Bool). face_by (length plan) p (left_of_vote plan (t + 1)) (all_of (left_of_vote plan (t + 1)) (any_flag plan)) b)
           (sym (flag_later plan t p)),
       k ∙ sym (flag_later plan t p),
     )
 
 -- nodes that begin
-pub pushed : {X : Type 0} (xs : List X) (x v : X) (k : ℕ) → slice_get (xs ++ x ∷ []) k ≡ Some v → (slice_get xs k ≡ Some v)
-    ⊎ ((k ≡ length xs) × (v ≡ x))
-pushed [] x v zero e = inr (refl, (let h : v ≡ x = cc in h))
-pushed [] x v (suc k) e = absurd (cc)
-pushed (y ∷ ys) x v zero e = inl e
-pushed (y ∷ ys) x v (suc k) e = elim (pushed ys x v k e) [ inl a ↦ inl a | inr b ↦ inr (ap suc b.0, b.1) ]
-
 pub heard_next : (b : Bool) (ls : List Letter) (i : ℕ) (x : Letter) (is result : Bool) → i < length ls → x ≡ get_or ls i x
     → is ≡ heard b (take i ls) → result ≡ either is (flag_in x) →
     result ≡ heard b (take (i + 1) ls)

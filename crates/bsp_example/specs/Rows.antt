@@ -81,18 +81,18 @@ new_left left flag = if left == 2 then (if flag then 1 else 0) else left - 1
 abbrev pub new_flag : ℕ → Bool → List Letter → Bool
 new_flag left flag got = if left == 3 then heard flag got else flag
 
-abbrev pub left_at : VoterPlan → ℕ → ℕ
-left_at plan zero = 3
-left_at plan (suc zero) = 2
-left_at plan (suc (suc zero)) = if any_flag plan then 1 else 0
-left_at plan (suc (suc (suc t))) = 0
+abbrev pub left_of_vote : VoterPlan → ℕ → ℕ
+left_of_vote plan zero = 3
+left_of_vote plan (suc zero) = 2
+left_of_vote plan (suc (suc zero)) = if any_flag plan then 1 else 0
+left_of_vote plan (suc (suc (suc t))) = 0
 
 abbrev pub flag_at : VoterPlan → ℕ → ℕ → Bool
 flag_at plan zero p = flag_of plan p
 flag_at plan (suc t) p = any_flag plan
 
 abbrev pub voter_row : VoterPlan → ℕ → ℕ → Face
-voter_row plan t p = face_by (length plan) p (left_at plan t) (all_of (left_at plan t) (any_flag plan)) (flag_at plan t p)
+voter_row plan t p = face_by (length plan) p (left_of_vote plan t) (all_of (left_of_vote plan t) (any_flag plan)) (flag_at plan t p)
 
 -- the room is free
 abbrev pub voter_holds : VoterPlan → ℕ → ℕ → VoterState → Type 0

@@ -12,5 +12,5 @@ mod runs;
 mod voter;
 
 pub use orders::moves_of_two;
-pub use runs::{finished, voters};
+pub use runs::{finished, voter_list, voters};
 pub use voter::Voter;

@@ -1,5 +1,5 @@
-ghost use Rattle.std.specs.Prelude.{◌≡◌, ◌<◌, ◌≤◌, [], length, IfOk};
-ghost use Rattle.bsp_core.specs.Turns.{IsInLockstep, HasEnded};
+ghost use Rattle.std.specs.Prelude.{◌≡◌, ◌<◌, ◌≤◌, [], length, map, IfOk};
+ghost use Rattle.bsp_core.specs.Turns.{Begins, IsInLockstep, HasEnded};
 ghost use Rattle.bsp_example.specs.Rows.{voter_row, voter_holds};
 ghost use Rattle.bsp_example.specs.Orders.{AreRounds};
 
@@ -7,6 +7,23 @@ use crate::Voter;
 use bsp_core::{NodeList, World};
 use fd_words::Memory;
 use std::alloc::Global;
+
+/// Nodes with these flags, that are together.
+pub fn voter_list(alloc: Global, flags: &[bool]) -> Result<NodeList<Voter>, Memory>
+    requires some { 0 < length flags.now }
+    requires few { length flags.now ≤ 16 }
+    ensures count { IfOk result (λ nodes. length nodes ≡ length flags.now) }
+    ensures begins { IfOk result (λ nodes. Begins (voter_row flags.now) (voter_holds flags.now) (length flags.now) (map (λ s. s) nodes)) }
+{
+    let count = flags.len() as u32;
+    let mut nodes = NodeList::new(alloc);
+    for p in 0..count {
+        let flag = flags[p as usize];
+        let node = Voter::start(alloc, p, count, flag)?;
+        nodes.push(node)?;
+    }
+    Ok(nodes)
+}
 
 /// A fresh World of nodes with these flags.
 pub fn voters(alloc: Global, flags: &[bool]) -> Result<World<Voter>, Memory>
@@ -16,13 +33,7 @@ pub fn voters(alloc: Global, flags: &[bool]) -> Result<World<Voter>, Memory>
     ensures moved { IfOk result (λ w. w.moved ≡ []) }
     ensures at { IfOk result (λ w. IsInLockstep (λ s. s) (voter_row flags.now) (voter_holds flags.now) (length flags.now) w) }
 {
-    let count = flags.len() as u32;
-    let mut nodes = NodeList::new(alloc);
-    for p in 0..count {
-        let flag = flags[p as usize];
-        let node = Voter::start(alloc, p, count, flag)?;
-        nodes.push(node)?;
-    }
+    let nodes = voter_list(alloc, flags)?;
     let world = World::new(alloc, nodes)?;
     Ok(world)
 }

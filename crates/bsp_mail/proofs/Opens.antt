@@ -76,23 +76,14 @@ module _ (queues : Queues) (j q : ℕ) (m n : MailSeat) (e : End) (a b : ℕ) wh
       }
 
 -- how many ends there are once a pair is opened
-outs_more : (from to : ℕ) → to ≢ from → outs_before from to from + 1 ≡ outs_before from (to + 1) from
-outs_more from to h = grind (arith, nat_tests)
+outs_step : (from to : ℕ) → to ≢ from → (outs_before from to from ≡ below from to)
+    × (outs_before from to from + 1 ≡ outs_before from (to + 1) from)
+    × ((j : ℕ) → j ≢ from → outs_before from to j ≡ outs_before from (to + 1) j)
+outs_step from to h = (grind (arith, nat_tests), grind (arith, nat_tests), λ j other. grind (arith, nat_tests))
 
-outs_is : (from to : ℕ) → outs_before from to from ≡ below from to
-outs_is from to = grind (arith, nat_tests)
-
-outs_else : (from to j : ℕ) → j ≢ from → outs_before from to j ≡ outs_before from (to + 1) j
-outs_else from to j h = grind (arith, nat_tests)
-
-ins_more : (from to : ℕ) → to ≢ from → ins_before from to to + 1 ≡ ins_before from (to + 1) to
-ins_more from to h = grind (arith, nat_tests)
-
-ins_is : (from to : ℕ) → ins_before from to to ≡ below to from
-ins_is from to = grind (arith, nat_tests)
-
-ins_else : (from to j : ℕ) → j ≢ to → ins_before from to j ≡ ins_before from (to + 1) j
-ins_else from to j h = grind (arith, nat_tests)
+ins_step : (from to : ℕ) → to ≢ from → (ins_before from to to ≡ below to from) × (ins_before from to to + 1 ≡ ins_before from (to + 1) to)
+    × ((j : ℕ) → j ≢ to → ins_before from to j ≡ ins_before from (to + 1) j)
+ins_step from to h = (grind (arith, nat_tests), grind (arith, nat_tests), λ j other. grind (arith, nat_tests))
 
 outs_skip : (from j : ℕ) → outs_before from from j ≡ outs_before from (from + 1) j
 outs_skip from j = grind (arith, nat_tests)
@@ -124,13 +115,15 @@ module _ (queues more : Queues) (queue : Queue) (xs : List MailSeat) (from to : 
       (((queue, line, tie_b), ap (λ (v : Hand). v.takes) is_b, ap (λ (v : Hand). v.dropped) is_b), is_b) in
       let was_t : slice_get xs to ≡ Some t = ⊎_elim (λ (h : (to ≡ from) × (n ≡ t)). absurd (apart h.0))
       (λ (h : (to ≢ from) × (slice_get xs to ≡ Some t)). h.1) (get_set xs from to n t at_t) in
+      let outs = outs_step from to apart in
+      let inns = ins_step from to apart in
       let Now : ℕ → MailSeat → Type 0 = λ j m. IsSeated more j m (outs_before from (to + 1) j) (ins_before from (to + 1) j) in
       let old_s = seated_longer queues more queue from s _ _ is (o.each from s at_s) in
-      let new_s : Now from n = recount more from n _ _ _ _ (outs_more from to apart) (ins_else from to from (λ e. apart (sym e)))
-      (seated_out more from to s n a _ _ out pair.1 (outs_is from to) here old_s) in
+      let new_s : Now from n = recount more from n _ _ _ _ outs.1 (inns.2 from (λ e. apart (sym e)))
+      (seated_out more from to s n a _ _ out pair.1 outs.0 here old_s) in
       let old_t = seated_longer queues more queue to t _ _ is (o.each to t was_t) in
-      let new_t : Now to u = recount more to u _ _ _ _ (outs_else from to to apart) (ins_more from to apart)
-      (seated_in more to from t u b _ _ ins (peer_back from to pair.0 pair.1) (ins_is from to) there old_t) in
+      let new_t : Now to u = recount more to u _ _ _ _ (outs.2 to apart) inns.1
+      (seated_in more to from t u b _ _ ins (peer_back from to pair.0 pair.1) inns.0 there old_t) in
       let next = below_next from to apart in
       let longer = length-append queues.lines.items (queue ∷ []) in
       record {
@@ -140,7 +133,7 @@ module _ (queues more : Queues) (queue : Queue) (xs : List MailSeat) (from to : 
             (λ (h : (j ≡ to) × (u ≡ m)). subst (λ (y : ℕ × MailSeat). Now y.0 y.1) (λ i. (sym h.0 i, h.1 i)) new_t)
             (λ (h : (j ≢ to) × (slice_get (set xs from n) j ≡ Some m)). ⊎_elim
             (λ (k : (j ≡ from) × (n ≡ m)). subst (λ (y : ℕ × MailSeat). Now y.0 y.1) (λ i. (sym k.0 i, k.1 i)) new_s)
-            (λ (k : (j ≢ from) × (slice_get xs j ≡ Some m)). recount more j m _ _ _ _ (outs_else from to j k.0) (ins_else from to j h.0)
+            (λ (k : (j ≢ from) × (slice_get xs j ≡ Some m)). recount more j m _ _ _ _ (outs.2 j k.0) (inns.2 j h.0)
             (seated_longer queues more queue j m _ _ is (o.each j m k.1)))
             (get_set xs from j n m h.1))
             (get_set (set xs from n) to j u m at);

@@ -1,16 +1,24 @@
 -- One seat of all changes.
 use Rattle.std.proofs.Common.{◌≡◌, ◌≢◌, ℕ, ◌+◌, ◌*◌, ◌<◌, List, [], length, map, set, get_or, sym, ap, ◌∙◌, subst, ⊎_elim, arith}
+use Rattle.std.proofs.Common.{Option, Some}
 use Rattle.std.specs.List.{slice_get}
+use Rattle.std.specs.declared.alloc.Global.{Global}
 use Rattle.std.proofs.lemmas.List.{get_or-set_same, get_or-set_other, get_or-map, map-set, length-map}
 use Rattle.std.proofs.lemmas.Bool.{cases_eq}
 use Rattle.std.proofs.Math.ListN.{length-set}
+use Rattle.atomic_blocks.specs.declared.web.Seat.{Seat}
+use Rattle.crossbeam_queue.specs.SegTies.{IsSegPassOf}
+use Rattle.crossbeam_queue.specs.declared.seg_queue.Going.{Going}
 use Rattle.chaos_letter.specs.declared.letter.Letter.{Letter}
+use Rattle.bsp_mail.specs.declared.hand.Hand.{Hand}
+use Rattle.bsp_mail.specs.declared.end.End.{End}
+use Rattle.bsp_mail.specs.declared.queues.Queue.{Queue}
 use Rattle.bsp_mail.specs.declared.queues.Queues.{Queues}
 use Rattle.bsp_mail.specs.declared.seat.MailSeat.{MailSeat}
 use Rattle.bsp_mail.specs.Rule.{IsPrefix}
-use Rattle.bsp_mail.specs.Seats.{below, IsPeer, hand_at, sent_to, taken_from}
-use Rattle.bsp_mail.specs.Mails.{part, number_of, outs_of, ins_of, out_end, in_end, sent_on, taken_on, IsPair, IsShaped, IsOpenPair}
-use Rattle.bsp_mail.specs.Mails.{SameLists, SameElse, Settling}
+use Rattle.bsp_mail.specs.Seats.{below, IsPeer, hand_at, IsHeirOf}
+use Rattle.bsp_mail.specs.Mails.{part, number_of, outs_of, ins_of, sent_on, taken_on, IsPair, IsShaped, IsOpenPair}
+use Rattle.bsp_mail.specs.Mails.{SameLists, SameElse, AreRetired, AreUnited, Settling}
 
 module _ {A : Type 0} (f : MailSeat → A) (d : A) where
   pub part_same : (xs : List MailSeat) (k : ℕ) (s : MailSeat) → k < length xs → part f d (set xs k s) k ≡ f s
@@ -30,131 +38,141 @@ module _ {A : Type 0} (f : MailSeat → A) (d : A) where
       (λ (n : j ≢ k). part_else xs k j t n)
       (cases_eq j k)
 
--- the receiver's seat gave its right away
-module _ (queues : Queues) (xs : List MailSeat) (from to : ℕ) (s t : MailSeat) where
-  abbrev pub Retired : Type 0
-  Retired = (t.me ≡ s.me) × (t.outs ≡ s.outs) × (length t.ins.items ≡ 15)
-      × ((q : ℕ) → IsPeer s.me q → q ≢ from → slice_get t.ins.items (below s.me q) ≡ slice_get s.ins.items (below s.me q))
-      × ((q : ℕ) → IsPeer s.me q → taken_from t q ≡ taken_from s q)
+-- The seat at place k is s. What is known of one of its two lists of ends is known of the Mail's.
+module _ (queues : Queues) (xs : List MailSeat) (k : ℕ) (s : MailSeat) (shape : IsShaped queues xs) (low : k < 16)
+    (is : s ≡ get_or xs k s) where
+  pub seat_room : k < length xs
+  seat_room = omega (arith, shape.count)
 
-  pub retired_shape : IsShaped queues xs → to < 16 → s ≡ get_or xs to s → Retired → IsShaped queues (set xs to t)
-  retired_shape shape h is r = let room : to < length xs = omega (arith, shape.count) in record {
-    lines = shape.lines;
-    count = length-set _ _ _ ∙ shape.count;
-    numbers = λ j m. part_kept number_of 16 xs to s t room is r.0 j ∙ shape.numbers j m;
-    outs = λ j m. ap length (part_kept outs_of [] xs to s t room is (ap (λ o. o.items) r.1) j) ∙ shape.outs j m;
-    ins = λ j m. ⊎_elim (λ (e : j ≡ to). subst (λ (i : ℕ). length (part ins_of [] (set xs to t) i) ≡ 15) (sym e)
-        (ap length (part_same ins_of [] xs to t room) ∙ r.2)) (λ (n : j ≢ to). ap length (part_else ins_of [] xs to j t n)
-        ∙ shape.ins j m) (cases_eq j to);
-  }
+  pub number_is : s.me ≡ k
+  number_is = sym (part_read number_of 16 xs k s seat_room is) ∙ shape.numbers k low
 
-  pub retired_outs : to < length xs → s ≡ get_or xs to s → Retired → (j : ℕ) → part outs_of [] (set xs to t) j ≡ part outs_of [] xs j
-  retired_outs room is r j = part_kept outs_of [] xs to s t room is (ap (λ o. o.items) r.1) j
+  -- as it stands
+  pub seat_shape : (s.me < 16) × (length s.outs.items ≡ 15) × (length s.ins.items ≡ 15)
+  seat_shape = (
+    rw number_is low,
+    ap length (sym (part_read outs_of [] xs k s seat_room is)) ∙ shape.outs k low,
+    ap length (sym (part_read ins_of [] xs k s seat_room is)) ∙ shape.ins k low,
+  )
 
-  pub number_is : IsShaped queues xs → to < 16 → s ≡ get_or xs to s → s.me ≡ to
-  number_is shape h is = let room : to < length xs = omega (arith, shape.count) in sym (part_read number_of 16 xs to s room is)
-      ∙ shape.numbers to h
+  module _ (f : MailSeat → List End) where
+    pub end_known : (F : ℕ → End → Type 0) (q : ℕ) → ((e : End) → slice_get (part f [] xs k) (below k q) ≡ Some e → F k e)
+        → (e : End) → slice_get (f s) (below s.me q) ≡ Some e → F s.me e
+    end_known F q h = subst (λ (j : ℕ). (e : End) → slice_get (f s) (below j q) ≡ Some e → F j e) (sym number_is)
+        (λ e at. h e (ap (λ l. slice_get l (below k q)) (part_read f [] xs k s seat_room is) ∙ at))
 
-  taken_here : (e : s.me ≡ to) → to < length xs → s ≡ get_or xs to s → Retired → (p : ℕ) → IsPair p to → taken_on (set xs to t) p to
-      ≡ taken_on xs p to
-  taken_here e room is r p pair =
-      let a : part ins_of [] (set xs to t) to ≡ t.ins.items = part_same ins_of [] xs to t room in
-      let b : part ins_of [] xs to ≡ s.ins.items = part_read ins_of [] xs to s room is in
-      let there : IsPeer s.me p = (pair.0, λ x. pair.1.1 (sym (x ∙ e))) in
-      let same : (hand_at t.ins.items (below t.me p)).taken ≡ (hand_at s.ins.items (below s.me p)).taken = r.4 p there in
-      ap (λ l. (hand_at l (below to p)).taken) a ∙ ap (λ (k : ℕ). (hand_at t.ins.items (below k p)).taken) (sym (r.0 ∙ e)) ∙ same
-      ∙ ap (λ (k : ℕ). (hand_at s.ins.items (below k p)).taken) e ∙ ap (λ l. (hand_at l (below to p)).taken) (sym b)
+    pub list_known : (g : Hand → List Letter) (q : ℕ) → g (hand_at (f s) (below s.me q)) ≡ g (hand_at (part f [] xs k) (below k q))
+    list_known g q = ap (λ (j : ℕ). g (hand_at (f s) (below j q))) number_is
+        ∙ ap (λ l. g (hand_at l (below k q))) (sym (part_read f [] xs k s seat_room is))
 
-  end_here : (e : s.me ≡ to) → to < length xs → s ≡ get_or xs to s → Retired → (p : ℕ) → IsPair p to → p ≢ from
-      → in_end (set xs to t) p to ≡ in_end xs p to
-  end_here e room is r p pair other =
-      let a : part ins_of [] (set xs to t) to ≡ t.ins.items = part_same ins_of [] xs to t room in
-      let b : part ins_of [] xs to ≡ s.ins.items = part_read ins_of [] xs to s room is in
-      let there : IsPeer s.me p = (pair.0, λ x. pair.1.1 (sym (x ∙ e))) in
-      let same : slice_get t.ins.items (below to p) ≡ slice_get s.ins.items (below to p) =
-      subst (λ (k : ℕ). slice_get t.ins.items (below k p) ≡ slice_get s.ins.items (below k p)) e (r.3 p there other) in
-      ap (λ l. slice_get l (below to p)) a ∙ same ∙ ap (λ l. slice_get l (below to p)) (sym b)
+  -- once it has become t
+  module _ (t : MailSeat) where
+    pub shape_kept : t.me ≡ s.me → length t.outs.items ≡ 15 → length t.ins.items ≡ 15 → IsShaped queues (set xs k t)
+    shape_kept me outs ins = record {
+      lines = shape.lines;
+      count = length-set _ _ _ ∙ shape.count;
+      numbers = λ j m. part_kept number_of 16 xs k s t seat_room is me j ∙ shape.numbers j m;
+      outs = λ j m. long outs_of outs j (shape.outs j m);
+      ins = λ j m. long ins_of ins j (shape.ins j m);
+    } where
+      long : (f : MailSeat → List End) → length (f t) ≡ 15 → (j : ℕ) → length (part f [] xs j) ≡ 15 → length (part f [] (set xs k t) j)
+          ≡ 15
+      long f h j was = ⊎_elim
+          (λ (e : j ≡ k). subst (λ (i : ℕ). length (part f [] (set xs k t) i) ≡ 15) (sym e) (ap length (part_same f [] xs k t seat_room)
+          ∙ h))
+          (λ (n : j ≢ k). ap length (part_else f [] xs k j t n) ∙ was)
+          (cases_eq j k)
 
-  pub retired_lists : IsShaped queues xs → to < 16 → s ≡ get_or xs to s → Retired → SameLists xs (set xs to t)
-  retired_lists shape h is r = let room : to < length xs = omega (arith, shape.count) in let e = number_is shape h is in record {
-    sent = λ p q pair. ap (λ l. (hand_at l (below p q)).sent) (retired_outs room is r p);
-    taken = λ p q pair. ⊎_elim (λ (z : q ≡ to). subst (λ (i : ℕ). taken_on (set xs to t) p i ≡ taken_on xs p i) (sym z)
-        (taken_here e room is r p (subst (λ (i : ℕ). IsPair p i) z pair)))
-        (λ (n : q ≢ to). ap (λ l. (hand_at l (below q p)).taken) (part_else ins_of [] xs to q t n)) (cases_eq q to);
-  }
+    module _ (f : MailSeat → List End) where
+      pub part_stays : f t ≡ f s → (j : ℕ) → part f [] (set xs k t) j ≡ part f [] xs j
+      part_stays same j = part_kept f [] xs k s t seat_room is same j
 
-  pub retired_else : IsShaped queues xs → to < 16 → s ≡ get_or xs to s → Retired → SameElse xs (set xs to t) from to
-  retired_else shape h is r = let room : to < length xs = omega (arith, shape.count) in let e = number_is shape h is in record {
-    outs = λ p q pair no. ap (λ l. slice_get l (below p q)) (retired_outs room is r p);
-    ins = λ p q pair no. ⊎_elim
-        (λ (z : q ≡ to). subst (λ (i : ℕ). in_end (set xs to t) p i ≡ in_end xs p i) (sym z)
-        (end_here e room is r p (subst (λ (i : ℕ). IsPair p i) z pair) (λ x. no (x, z))))
-        (λ (n : q ≢ to). ap (λ l. slice_get l (below q p)) (part_else ins_of [] xs to q t n))
-        (cases_eq q to);
-  }
+      pub list_kept : (g : Hand → List Letter) → t.me ≡ s.me
+          → ((q : ℕ) → IsPeer s.me q → g (hand_at (f t) (below t.me q)) ≡ g (hand_at (f s) (below s.me q)))
+          → (j q : ℕ) → IsPeer j q → g (hand_at (part f [] (set xs k t) j) (below j q)) ≡ g (hand_at (part f [] xs j) (below j q))
+      list_kept g me h j q peer = ⊎_elim
+          (λ (e : j ≡ k).
+          let at : j ≡ s.me = e ∙ sym number_is in
+          let a : part f [] (set xs k t) j ≡ f t = subst (λ (i : ℕ). part f [] (set xs k t) i ≡ f t) (sym e)
+          (part_same f [] xs k t seat_room) in
+          let b : part f [] xs j ≡ f s = subst (λ (i : ℕ). part f [] xs i ≡ f s) (sym e) (part_read f [] xs k s seat_room is) in
+          ap (λ l. g (hand_at l (below j q))) a ∙ ap (λ (i : ℕ). g (hand_at (f t) (below i q))) (at ∙ sym me)
+          ∙ h q (subst (λ (i : ℕ). IsPeer i q) at peer)
+          ∙ ap (λ (i : ℕ). g (hand_at (f s) (below i q))) (sym at) ∙ ap (λ l. g (hand_at l (below j q))) (sym b))
+          (λ (n : j ≢ k). ap (λ l. g (hand_at l (below j q))) (part_else f [] xs k j t n))
+          (cases_eq j k)
 
--- the sender's seat took that right in
-module _ (queues : Queues) (xs : List MailSeat) (from to : ℕ) (s t : MailSeat) where
-  abbrev pub United : Type 0
-  United = (t.me ≡ s.me) × (t.ins ≡ s.ins) × (length t.outs.items ≡ 15)
-      × ((q : ℕ) → IsPeer s.me q → q ≢ to → slice_get t.outs.items (below s.me q) ≡ slice_get s.outs.items (below s.me q))
-      × ((q : ℕ) → IsPeer s.me q → sent_to t q ≡ sent_to s q)
+      pub end_kept : (other : ℕ)
+          → ((q : ℕ) → IsPeer s.me q → q ≢ other → slice_get (f t) (below s.me q) ≡ slice_get (f s) (below s.me q))
+          → (j q : ℕ) → IsPeer j q → ((j ≡ k) × (q ≡ other) → ⊥)
+          → slice_get (part f [] (set xs k t) j) (below j q) ≡ slice_get (part f [] xs j) (below j q)
+      end_kept other h j q peer apart = ⊎_elim
+          (λ (e : j ≡ k).
+          let at : j ≡ s.me = e ∙ sym number_is in
+          let same = subst (λ (i : ℕ). IsPeer i q → q ≢ other → slice_get (f t) (below i q) ≡ slice_get (f s) (below i q)) (sym at) (h q) in
+          subst (λ (i : ℕ). part f [] (set xs k t) i ≡ f t → part f [] xs i ≡ f s
+          → slice_get (part f [] (set xs k t) j) (below j q) ≡ slice_get (part f [] xs j) (below j q)) e
+          (λ a b. ap (λ l. slice_get l (below j q)) a ∙ same peer (λ x. apart (e, x)) ∙ ap (λ l. slice_get l (below j q)) (sym b))
+          (part_same f [] xs k t seat_room) (part_read f [] xs k s seat_room is))
+          (λ (n : j ≢ k). ap (λ l. slice_get l (below j q)) (part_else f [] xs k j t n))
+          (cases_eq j k)
 
-  pub united_shape : IsShaped queues xs → from < 16 → s ≡ get_or xs from s → United → IsShaped queues (set xs from t)
-  united_shape shape h is r = let room : from < length xs = omega (arith, shape.count) in record {
-    lines = shape.lines;
-    count = length-set _ _ _ ∙ shape.count;
-    numbers = λ j m. part_kept number_of 16 xs from s t room is r.0 j ∙ shape.numbers j m;
-    ins = λ j m. ap length (part_kept ins_of [] xs from s t room is (ap (λ o. o.items) r.1) j) ∙ shape.ins j m;
-    outs = λ j m. ⊎_elim (λ (e : j ≡ from). subst (λ (i : ℕ). length (part outs_of [] (set xs from t) i) ≡ 15) (sym e)
-        (ap length (part_same outs_of [] xs from t room) ∙ r.2)) (λ (n : j ≢ from). ap length (part_else outs_of [] xs from j t n)
-        ∙ shape.outs j m) (cases_eq j from);
-  }
+turned : (p q : ℕ) → IsPair p q → IsPeer q p
+turned p q pair = (pair.0, λ e. pair.1.1 (sym e))
 
-  pub united_ins : from < length xs → s ≡ get_or xs from s → United → (j : ℕ) → part ins_of [] (set xs from t) j ≡ part ins_of [] xs j
-  united_ins room is r j = part_kept ins_of [] xs from s t room is (ap (λ o. o.items) r.1) j
+-- one of a seat's two lists of ends has changed: that of one line alone, and no list of letters
+abbrev pub Changes : (MailSeat → List End) → (Hand → List Letter) → ℕ → MailSeat → MailSeat → Type 0
+Changes f g other s t = (length (f t) ≡ 15)
+    × ((q : ℕ) → IsPeer s.me q → q ≢ other → slice_get (f t) (below s.me q) ≡ slice_get (f s) (below s.me q))
+    × ((q : ℕ) → IsPeer s.me q → g (hand_at (f t) (below t.me q)) ≡ g (hand_at (f s) (below s.me q)))
 
-  pub sender_is : IsShaped queues xs → from < 16 → s ≡ get_or xs from s → s.me ≡ from
-  sender_is shape h is = let room : from < length xs = omega (arith, shape.count) in sym (part_read number_of 16 xs from s room is)
-      ∙ shape.numbers from h
+module _ (queues : Queues) (xs : List MailSeat) (from to : ℕ) (s t : MailSeat) (shape : IsShaped queues xs) where
+  -- the receiver's seat gave its right away
+  pub are_retired : (low : to < 16) → (is : s ≡ get_or xs to s) → t.me ≡ s.me → t.outs ≡ s.outs → Changes ins_of (λ v. v.taken) from s t
+      → AreRetired queues xs (set xs to t) from to
+  are_retired low is me same h =
+      let outs = part_stays queues xs to s shape low is t outs_of (ap (λ o. o.items) same) in
+      record {
+        shape = shape_kept queues xs to s shape low is t me
+            (ap (λ o. length o.items) same ∙ (seat_shape queues xs to s shape low is).1) h.0;
+        same = record {
+          sent = λ p q pair. ap (λ l. (hand_at l (below p q)).sent) (outs p);
+          taken = λ p q pair. list_kept queues xs to s shape low is t ins_of (λ v. v.taken) me h.2 q p (turned p q pair);
+        };
+        others = record {
+          outs = λ p q pair no. ap (λ l. slice_get l (below p q)) (outs p);
+          ins = λ p q pair no. end_kept queues xs to s shape low is t ins_of from h.1 q p (turned p q pair) (λ x. no (x.1, x.0));
+        };
+        outs = outs;
+      }
 
-  sent_here : (e : s.me ≡ from) → from < length xs → s ≡ get_or xs from s → United → (q : ℕ) → IsPair from q
-      → sent_on (set xs from t) from q ≡ sent_on xs from q
-  sent_here e room is r q pair =
-      let a : part outs_of [] (set xs from t) from ≡ t.outs.items = part_same outs_of [] xs from t room in
-      let b : part outs_of [] xs from ≡ s.outs.items = part_read outs_of [] xs from s room is in
-      let there : IsPeer s.me q = (pair.1.0, λ x. pair.1.1 (x ∙ e)) in
-      let same : (hand_at t.outs.items (below t.me q)).sent ≡ (hand_at s.outs.items (below s.me q)).sent = r.4 q there in
-      ap (λ l. (hand_at l (below from q)).sent) a ∙ ap (λ (k : ℕ). (hand_at t.outs.items (below k q)).sent) (sym (r.0 ∙ e)) ∙ same
-      ∙ ap (λ (k : ℕ). (hand_at s.outs.items (below k q)).sent) e ∙ ap (λ l. (hand_at l (below from q)).sent) (sym b)
+  -- the sender's seat took that right in
+  pub are_united : (low : from < 16) → (is : s ≡ get_or xs from s) → t.me ≡ s.me → t.ins ≡ s.ins → Changes outs_of (λ v. v.sent) to s t
+      → AreUnited queues xs (set xs from t) from to
+  are_united low is me same h =
+      let ins = part_stays queues xs from s shape low is t ins_of (ap (λ o. o.items) same) in
+      record {
+        shape = shape_kept queues xs from s shape low is t me h.0
+            (ap (λ o. length o.items) same ∙ (seat_shape queues xs from s shape low is).2);
+        same = record {
+          sent = λ p q pair. list_kept queues xs from s shape low is t outs_of (λ v. v.sent) me h.2 p q pair.1;
+          taken = λ p q pair. ap (λ l. (hand_at l (below q p)).taken) (ins q);
+        };
+        others = record {
+          outs = λ p q pair no. end_kept queues xs from s shape low is t outs_of to h.1 p q pair.1 no;
+          ins = λ p q pair no. ap (λ l. slice_get l (below q p)) (ins q);
+        };
+      }
 
-  out_here : (e : s.me ≡ from) → from < length xs → s ≡ get_or xs from s → United → (q : ℕ) → IsPair from q → q ≢ to
-      → out_end (set xs from t) from q ≡ out_end xs from q
-  out_here e room is r q pair other =
-      let a : part outs_of [] (set xs from t) from ≡ t.outs.items = part_same outs_of [] xs from t room in
-      let b : part outs_of [] xs from ≡ s.outs.items = part_read outs_of [] xs from s room is in
-      let there : IsPeer s.me q = (pair.1.0, λ x. pair.1.1 (x ∙ e)) in
-      let same : slice_get t.outs.items (below from q) ≡ slice_get s.outs.items (below from q) =
-      subst (λ (k : ℕ). slice_get t.outs.items (below k q) ≡ slice_get s.outs.items (below k q)) e (r.3 q there other) in
-      ap (λ l. slice_get l (below from q)) a ∙ same ∙ ap (λ l. slice_get l (below from q)) (sym b)
-
-  pub united_lists : IsShaped queues xs → from < 16 → s ≡ get_or xs from s → United → SameLists xs (set xs from t)
-  united_lists shape h is r = let room : from < length xs = omega (arith, shape.count) in let e = sender_is shape h is in record {
-    taken = λ p q pair. ap (λ l. (hand_at l (below q p)).taken) (united_ins room is r q);
-    sent = λ p q pair. ⊎_elim (λ (z : p ≡ from). subst (λ (i : ℕ). sent_on (set xs from t) i q ≡ sent_on xs i q) (sym z)
-        (sent_here e room is r q (subst (λ (i : ℕ). IsPair i q) z pair)))
-        (λ (n : p ≢ from). ap (λ l. (hand_at l (below p q)).sent) (part_else outs_of [] xs from p t n)) (cases_eq p from);
-  }
-
-  pub united_else : IsShaped queues xs → from < 16 → s ≡ get_or xs from s → United → SameElse xs (set xs from t) from to
-  united_else shape h is r = let room : from < length xs = omega (arith, shape.count) in let e = sender_is shape h is in record {
-    ins = λ p q pair no. ap (λ l. slice_get l (below q p)) (united_ins room is r q);
-    outs = λ p q pair no. ⊎_elim
-        (λ (z : p ≡ from). subst (λ (i : ℕ). out_end (set xs from t) i q ≡ out_end xs i q) (sym z)
-        (out_here e room is r q (subst (λ (i : ℕ). IsPair i q) z pair) (λ x. no (z, x))))
-        (λ (n : p ≢ from). ap (λ l. slice_get l (below p q)) (part_else outs_of [] xs from p t n))
-        (cases_eq p from);
-  }
+-- the heir of one line at the place of another name
+pub heir_at : (queues : Queues) (j k : ℕ) (xs ys : List Letter) (pass : Seat (Option Letter) (Going Letter Hand) Global) → j ≡ k → xs ≡ ys
+    → IsHeirOf queues j xs pass → IsHeirOf queues k ys pass
+heir_at queues j k xs ys pass a b h = (
+  subst (λ (i : ℕ). (queue : Queue) → slice_get queues.lines.items i ≡ Some queue
+      → IsSegPassOf queue.line pass) a h.0,
+  h.1,
+  h.2 ∙ b,
+)
 
 pub lists_then : (xs ys zs : List MailSeat) → SameLists xs ys → SameLists ys zs → SameLists xs zs
 lists_then xs ys zs a b = record {

@@ -7,7 +7,7 @@ use Rattle.crossbeam_queue.specs.Fifo.{Pushes, Pops, Forks, Merges, Learns}
 use Rattle.crossbeam_queue.proofs.Lists.{at_set, at_snoc}
 use Rattle.chaos_letter.specs.declared.letter.Letter.{Letter}
 use Rattle.bsp_mail.specs.declared.hand.Hand.{Hand}
-use Rattle.bsp_mail.specs.Rule.{hand, nobody, after_put, after_take, after_poll, after_drop, both_hands, IsPrefix, Fits, InOrder}
+use Rattle.bsp_mail.specs.Rule.{hand, nobody, after_put, after_take, after_poll, after_drop, both_hands, IsPrefix, FitsRule, InOrder}
 
 at_end : (l : List Hand) (a b : Hand) (j : ℕ) → get_elem? l j ≢ some b → get_elem? (l ++ a ∷ []) j ≡ some b → j ≡ length l
 at_end [] a b zero n e = refl
@@ -42,7 +42,8 @@ begins = (
   [],
   [],
   refl,
-  all_set (Fits 0 0 [] [] []) (hand true true [] [] [] 0 ∷ []) 0 (hand true true [] [] [] 0) ((λ _. (refl, refl)), λ _. (refl, refl, refl))
+  all_set (FitsRule 0 0 [] [] []) (hand true true [] [] [] 0 ∷ [])
+      0 (hand true true [] [] [] 0) ((λ _. (refl, refl)), λ _. (refl, refl, refl))
       (λ j u other e. absurd (other (at_end [] _ u j (λ x. some-ne-none u (sym x)) e))),
 )
 
@@ -56,7 +57,8 @@ puts n pass v x may items views _ h at = let mine = h.6 pass v at in let sent = 
     h.3,
     h.4,
     ap (λ l. l ++ x ∷ []) h.5 ∙ append_assoc (h.3 ++ h.4) items (x ∷ []),
-    all_set (Fits h.0 h.1 sent h.3 h.4) views pass (after_put v x) ((λ _. ((mine.0 may).0, ap (λ l. l ++ x ∷ []) (mine.0 may).1)), mine.1)
+    all_set (FitsRule h.0 h.1 sent h.3 h.4)
+        views pass (after_put v x) ((λ _. ((mine.0 may).0, ap (λ l. l ++ x ∷ []) (mine.0 may).1)), mine.1)
         (λ j u other e. ((λ p. absurd (other (((h.6 j u e).0 p).0 ∙ sym (mine.0 may).0))), (h.6 j u e).1)),
   ),
   refl,
@@ -72,7 +74,7 @@ takes pass v may none x items views h at = let mine = h.6 pass v at in let taken
     taken,
     h.4,
     h.5 ∙ taken_on h.3 h.4 items x (sym (mine.1 may).2 ∙ none),
-    all_set (Fits h.0 h.1 h.2 taken h.4) views pass (after_take v x) (
+    all_set (FitsRule h.0 h.1 h.2 taken h.4) views pass (after_take v x) (
       mine.0,
       λ _. (
         (mine.1 may).0,
@@ -105,7 +107,7 @@ drops pass v a b x items views h at = let mine = h.6 pass v at in let dropped = 
     h.3,
     dropped,
     h.5 ∙ dropped_on h.3 h.4 items x,
-    all_set (Fits h.0 h.1 h.2 h.3 dropped) views pass (after_drop v x)
+    all_set (FitsRule h.0 h.1 h.2 h.3 dropped) views pass (after_drop v x)
         (mine.0, λ _. ((mine.1 b).0, (mine.1 b).1, ap (λ l. l ++ x ∷ []) (mine.1 b).2))
         (λ j u other e. ((h.6 j u e).0, λ p. absurd (other (((h.6 j u e).1 p).0 ∙ sym (mine.1 b).0)))),
   ),
@@ -140,7 +142,7 @@ gives pass v l r b ends same alone t d items views h at = let mine = h.6 pass v 
 -- an empty poll is counted
 pub polls : (pass : ℕ) (v : Hand) → Forks InOrder pass v (after_poll v) nobody
 polls pass v items views h at = let mine = h.6 pass v at in let vs : List Hand = set views pass (after_poll v) in
-    let old : All (Fits h.0 h.1 h.2 h.3 h.4) vs = all_set (Fits h.0 h.1 h.2 h.3 h.4) views pass (after_poll v) mine
+    let old : All (FitsRule h.0 h.1 h.2 h.3 h.4) vs = all_set (FitsRule h.0 h.1 h.2 h.3 h.4) views pass (after_poll v) mine
     (λ j u other e. h.6 j u e) in (
       h.0,
       h.1,
@@ -162,7 +164,7 @@ unites pass v other u a b items views h at two at' = let both : Hand = both_hand
     set views pass both in
     let was : get_elem? views other ≡ some u = ⊎_elim (λ x. absurd (two x.0)) (λ x. x.1) (at_set views pass other both u at') in
     let theirs = (h.6 other u was).1 b in
-    let Now : ℕ → Hand → Type 0 = λ j y. j ≢ other → Fits h.0 pass h.2 h.3 h.4 j y in
+    let Now : ℕ → Hand → Type 0 = λ j y. j ≢ other → FitsRule h.0 pass h.2 h.3 h.4 j y in
     let now : All Now vs = all_set Now views pass both (λ _. ((λ _. mine.0 a), λ _. (refl, theirs.1, theirs.2)))
     (λ j y _ e apart. ((h.6 j y e).0, λ p. absurd (apart (((h.6 j y e).1 p).0 ∙ sym theirs.0)))) in (
       h.0,
@@ -171,7 +173,7 @@ unites pass v other u a b items views h at two at' = let both : Hand = both_hand
       h.3,
       h.4,
       h.5,
-      all_set (Fits h.0 pass h.2 h.3 h.4) vs other nobody (
+      all_set (FitsRule h.0 pass h.2 h.3 h.4) vs other nobody (
         (λ p. absurd (true≢false (sym p))),
         λ p. absurd (true≢false (sym p)),
       ) (λ j y apart e. now j y e apart),

@@ -36,28 +36,21 @@ module _ (queues : Queues) (xs : List MailSeat) (w : IsWhole queues xs) where
     ins = λ j h. let g = seat_there j h in ap length (part_got ins_of [] xs j g.0 g.1) ∙ (w.each j g.0 g.1).1.ins;
   }
 
+  -- what holds of the ends of an open seat
+  end_seen : (f : MailSeat → List End) (F : ℕ → ℕ → End → Type 0)
+      → ((m : MailSeat) → IsOpenOn queues m → (q : ℕ) (e : End) → IsPeer m.me q → slice_get (f m) (below m.me q) ≡ Some e → F m.me q e)
+      → (p q : ℕ) → p < 16 → IsPeer p q → (e : End) → slice_get (part f [] xs p) (below p q) ≡ Some e → F p q e
+  end_seen f F ends p q low peer e at =
+      let g = seat_there p low in
+      let m = g.0 in
+      let o = w.each p m g.1 in
+      subst (λ (k : ℕ). IsPeer k q → slice_get (f m) (below k q) ≡ Some e → F k q e) o.0 (ends m o.1 q e) peer
+      (subst (λ (l : List End). slice_get l (below p q) ≡ Some e) (part_got f [] xs p m g.1) at)
+
   pub whole_open : (p q : ℕ) → IsPair p q → IsOpenPair queues xs p q
   whole_open p q pair = record {
-    outs = λ e at.
-        let g = seat_there p pair.0 in
-        let m = g.0 in
-        let o = w.each p m g.1 in
-        let here : slice_get m.outs.items (below p q) ≡ Some e = subst (λ (l : List End). slice_get l (below p q) ≡ Some e)
-        (part_got outs_of [] xs p m g.1) at in
-        let ends : (k : ℕ) → m.me ≡ k → IsPeer k q → slice_get m.outs.items (below k q) ≡ Some e → IsOutOf queues k q e =
-        λ k is. subst (λ (i : ℕ). IsPeer i q → slice_get m.outs.items (below i q) ≡ Some e → IsOutOf queues i q e) is
-        (λ peer got. o.1.out_ends q e peer got) in
-        ends p o.0 pair.1 here;
-    ins = λ e at.
-        let g = seat_there q pair.1.0 in
-        let m = g.0 in
-        let o = w.each q m g.1 in
-        let here : slice_get m.ins.items (below q p) ≡ Some e = subst (λ (l : List End). slice_get l (below q p) ≡ Some e)
-        (part_got ins_of [] xs q m g.1) at in
-        let ends : (k : ℕ) → m.me ≡ k → IsPeer k p → slice_get m.ins.items (below k p) ≡ Some e → IsInOf queues k p e =
-        λ k is. subst (λ (i : ℕ). IsPeer i p → slice_get m.ins.items (below i p) ≡ Some e → IsInOf queues i p e) is
-        (λ peer got. o.1.in_ends p e peer got) in
-        ends q o.0 (peer_back p q pair.0 pair.1) here;
+    outs = end_seen outs_of (λ j i e. IsOutOf queues j i e) (λ m o. o.out_ends) p q pair.0 pair.1;
+    ins = end_seen ins_of (λ j i e. IsInOf queues j i e) (λ m o. o.in_ends) q p pair.1.0 (peer_back p q pair.0 pair.1);
   }
 
   pub settling_begins : Settling queues xs xs 0

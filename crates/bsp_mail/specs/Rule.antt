@@ -43,12 +43,12 @@ heir v = hand false true [] v.taken v.dropped v.polls
 abbrev pub both_hands : Hand → Hand → Hand
 both_hands v w = hand true true v.sent w.taken w.dropped w.polls
 
-abbrev pub Fits : ℕ → ℕ → List Letter → List Letter → List Letter → ℕ → Hand → Type 0
-Fits writer reader sent taken dropped pass v =
+abbrev pub FitsRule : ℕ → ℕ → List Letter → List Letter → List Letter → ℕ → Hand → Type 0
+FitsRule writer reader sent taken dropped pass v =
     (v.sends ≡ true → (pass ≡ writer) × (v.sent ≡ sent))
     × (v.takes ≡ true → (pass ≡ reader) × (v.taken ≡ taken) × (v.dropped ≡ dropped))
 
 abbrev pub InOrder : List Letter → List Hand → Type 0
 InOrder items views = (writer : ℕ) × (reader : ℕ) × (sent : List Letter) × (taken : List Letter) × (dropped : List Letter)
     × (sent ≡ (taken ++ dropped) ++ items)
-    × ((pass : ℕ) (v : Hand) → get_elem? views pass ≡ some v → Fits writer reader sent taken dropped pass v)
+    × ((pass : ℕ) (v : Hand) → get_elem? views pass ≡ some v → FitsRule writer reader sent taken dropped pass v)

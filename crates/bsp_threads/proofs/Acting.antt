@@ -22,10 +22,14 @@ use Rattle.bsp_threads.specs.declared.seat.Standing.{Standing}
 use Rattle.bsp_threads.specs.declared.seat.Standing.TheVariants.{Going, Finished as IsFinished, Strayed, OutOfMemory}
 use Rattle.bsp_threads.specs.declared.seat.DriveSeat.{DriveSeat}
 use Rattle.bsp_threads.specs.Seats.{works_in, HasMailed, IsReady, HasDone}
-use Rattle.bsp_threads.specs.Drives.{fault_of, standing_after, HasStrayed, MayLackOne, Ends, Answers, HasWaited, HasMoved, HasPolled}
+use Rattle.bsp_threads.specs.Drives.{fault_of, standing_after, HasStrayed, MayLackOne, DriveEnds, Answers, HasWaited, HasMoved, HasPolled}
 use Rattle.bsp_threads.specs.Drives.{IsOnTheWay}
 use Rattle.bsp_threads.proofs.Doing.{mailed_none, mailed_work, mailed_put, mailed_unput, mailed_take, mailed_poll, mailed_append}
 use Rattle.bsp_threads.proofs.Doing.{works_append}
+
+-- a seat with another node and another mail seat
+abbrev pub seat_with : {N : Type 0} → DriveSeat N → N → MailSeat → DriveSeat N
+seat_with s node mail = record { node = node; mail = mail; works = s.works; standing = s.standing }
 
 module _ {S : Type 0} (w : View S) where
   strayed_more : (wanted : Wanted) (got : Letter) (xs acts mailed : List Act) → HasStrayed w wanted got acts mailed
@@ -50,7 +54,7 @@ module _ {S : Type 0} (w : View S) where
       ))
       h
 
-  pub ends_more : (k : Standing) (xs acts mailed : List Act) → Ends k w acts mailed → Ends k w (xs ++ acts) (xs ++ mailed)
+  pub ends_more : (k : Standing) (xs acts mailed : List Act) → DriveEnds k w acts mailed → DriveEnds k w (xs ++ acts) (xs ++ mailed)
   ends_more Going xs acts mailed h = ap (λ l. xs ++ l) h
   ends_more IsFinished xs acts mailed h = (ap (λ l. xs ++ l) h.0, h.1)
   ends_more Strayed xs acts mailed h = (h.0, h.1, strayed_more h.0 h.1 xs acts mailed h.2)
@@ -63,7 +67,8 @@ module _ {S : Type 0} (w : View S) where
   answers_more (Err (Stray wanted got)) xs acts mailed h = strayed_more wanted got xs acts mailed h
   answers_more (Err Memory) xs acts mailed h = lack_more xs acts mailed h
 
-  pub ends_of : (r : Result Drove DriveFault) (acts mailed : List Act) → Answers r w acts mailed → Ends (standing_after r) w acts mailed
+  pub ends_of : (r : Result Drove DriveFault) (acts mailed : List Act) → Answers r w acts mailed
+      → DriveEnds (standing_after r) w acts mailed
   ends_of (Ok Finished) acts mailed h = h
   ends_of (Ok Waiting) acts mailed h = h
   ends_of (Err (Stray wanted got)) acts mailed h = (wanted, got, h)

@@ -29,23 +29,21 @@ one_taken : (from : ℕ) (x : Letter) → taken_of from (Took from x ∷ []) ≡
 one_taken from x = grind (arith, nat_tests)
 
 -- nothing, a letter put, a letter taken
-pub mailed_none : (count : ℕ) (s : MailSeat) → HasMailed count s [] s
-mailed_none count s = record {
+mailed_quiet : (count : ℕ) (s : MailSeat) (acts : List Act) → AreWithOthers s.me count acts → ((q : ℕ) → put_to q acts ≡ [])
+    → ((q : ℕ) → taken_of q acts ≡ []) → HasMailed count s acts s
+mailed_quiet count s acts others put taken = record {
   me = refl;
-  others = tt;
-  sent = λ q p. sym (append-nil (sent_to s q));
-  taken = λ q p. sym (append-nil (taken_from s q));
+  others = others;
+  sent = λ q p. sym (append-nil (sent_to s q)) ∙ ap (λ l. sent_to s q ++ l) (sym (put q));
+  taken = λ q p. sym (append-nil (taken_from s q)) ∙ ap (λ l. taken_from s q ++ l) (sym (taken q));
   polls = λ q p none. omega arith;
 }
 
+pub mailed_none : (count : ℕ) (s : MailSeat) → HasMailed count s [] s
+mailed_none count s = mailed_quiet count s [] tt (λ q. refl) (λ q. refl)
+
 pub mailed_work : (count : ℕ) (s : MailSeat) → HasMailed count s (Worked ∷ []) s
-mailed_work count s = record {
-  me = refl;
-  others = tt;
-  sent = λ q p. sym (append-nil (sent_to s q));
-  taken = λ q p. sym (append-nil (taken_from s q));
-  polls = λ q p none. omega arith;
-}
+mailed_work count s = mailed_quiet count s (Worked ∷ []) tt (λ q. refl) (λ q. refl)
 
 pub mailed_put : (count : ℕ) (s t : MailSeat) (to : ℕ) (x : Letter) → (to < count) × (to ≢ s.me) → (t.me ≡ s.me) × (t.ins ≡ s.ins)
     → ((q : ℕ) → IsPeer s.me q → sent_to t q ≡ sent_to s q ++ only to q x) → HasMailed count s (Sent to x ∷ []) t

@@ -21,7 +21,7 @@ use Rattle.bsp_threads.specs.declared.seat.Standing.{Standing}
 use Rattle.bsp_threads.specs.declared.seat.Standing.TheVariants.{Going, Finished, Strayed}
 use Rattle.bsp_threads.specs.declared.seat.DriveSeat.{DriveSeat}
 use Rattle.bsp_threads.specs.Seats.{AreWithOthers, IsReady, HasDone}
-use Rattle.bsp_threads.specs.Drives.{Ends}
+use Rattle.bsp_threads.specs.Drives.{DriveEnds}
 use Rattle.bsp_threads.specs.Rounds.{HasCome, HasGone, HasFinished, SomeStrayed}
 use Rattle.bsp_threads.specs.Alls.{AreSeated, AreBack, SameFrom, AreNumbered, WasLed, HaveRun}
 use Rattle.bsp_threads.proofs.Acting.{done_none}
@@ -88,7 +88,7 @@ module _ {N S : Type 0} (view : N → View S) (works : View S → View S → Typ
         let g : HasGone view works queues s t = subst (λ (k : DriveSeat N). HasGone view works queues s k) is
         (AllZip-get_or (HasGone view works queues) xs ys j t t gone low') in
         let going = (seated.each j s here).2 in
-        let begun : HasCome view works s s = subst (λ (k : Standing). HasDone view works s (Ends k (view s.node)) s) (sym going)
+        let begun : HasCome view works s s = subst (λ (k : Standing). HasDone view works s (DriveEnds k (view s.node)) s) (sym going)
         (done_none view works s) in
         (s, here, g.ready, g.come s begun)
 

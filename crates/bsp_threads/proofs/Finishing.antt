@@ -23,13 +23,13 @@ use Rattle.bsp_mail.specs.Mails.{sent_on, taken_on, IsPair, IsFresh, ArePrefixes
 use Rattle.bsp_threads.specs.declared.seat.Standing.{Standing}
 use Rattle.bsp_threads.specs.declared.seat.Standing.TheVariants.{Going, Finished, Strayed, OutOfMemory}
 use Rattle.bsp_threads.specs.Seats.{AreWithOthers}
-use Rattle.bsp_threads.specs.Drives.{Ends}
+use Rattle.bsp_threads.specs.Drives.{DriveEnds}
 use Rattle.bsp_threads.specs.Alls.{AreNumbered, WasLed, HaveRun, AllFollow, AreEmptyFrom, AreOfPlan, AreAtEnd, IsLawfulRun}
 use Rattle.bsp_threads.proofs.Doing.{none_put, none_taken, none_left}
 
 -- what the node posted begins with what was put, and what was taken begins with what the node took
 module _ {S : Type 0} (w : View S) (q : ℕ) where
-  pub put_begins : (k : Standing) (acts mailed : List Act) → Ends k w acts mailed → (rest : List Letter)
+  pub put_begins : (k : Standing) (acts mailed : List Act) → DriveEnds k w acts mailed → (rest : List Letter)
       × (put_to q acts ≡ put_to q mailed ++ rest)
   put_begins Going acts mailed h = ([], ap (put_to q) (sym h) ∙ sym (append-nil (put_to q mailed)))
   put_begins Finished acts mailed h = ([], ap (put_to q) (sym h.0) ∙ sym (append-nil (put_to q mailed)))
@@ -47,7 +47,7 @@ module _ {S : Type 0} (w : View S) (q : ℕ) where
       ))
       h
 
-  pub take_begins : (k : Standing) (acts mailed : List Act) → Ends k w acts mailed → (rest : List Letter)
+  pub take_begins : (k : Standing) (acts mailed : List Act) → DriveEnds k w acts mailed → (rest : List Letter)
       × (taken_of q mailed ≡ taken_of q acts ++ rest)
   take_begins Going acts mailed h = ([], ap (taken_of q) h ∙ sym (append-nil (taken_of q acts)))
   take_begins Finished acts mailed h = ([], ap (taken_of q) h.0 ∙ sym (append-nil (taken_of q acts)))
@@ -166,7 +166,8 @@ module _ {N S P : Type 0} (view : N → View S) (is : P → Type 0) (count : P �
           let b : q < n = let f = s.1 in let g = long in omega arith in
           let o = node_at q b in
           let w = view o.1 in
-          let tied : Ends Strayed w (run.acts q) (run.mailed q) = subst (λ (k : Standing). Ends k w (run.acts q) (run.mailed q)) s.2
+          let tied : DriveEnds Strayed w (run.acts q)
+          (run.mailed q) = subst (λ (k : Standing). DriveEnds k w (run.acts q) (run.mailed q)) s.2
           o.4.tied in
           let h = tied.2 in
           let p = h.from in
@@ -206,8 +207,8 @@ module _ {N S P : Type 0} (view : N → View S) (is : P → Type 0) (count : P �
           let low : p < n = let w = slice_get_within (map view new) p v av in let f = long_new in omega arith in
           let o = node_at p low in
           let ev : view o.1 ≡ v = let k : Some (view o.1) ≡ Some v = sym (get_map view new p o.1 o.3) ∙ av in cc in
-          let tied : Ends Finished (view o.1) (run.acts p) (run.mailed p) =
-          subst (λ (k : Standing). Ends k (view o.1) (run.acts p) (run.mailed p)) (run.finished e p (let f = long in omega arith))
+          let tied : DriveEnds Finished (view o.1) (run.acts p) (run.mailed p) =
+          subst (λ (k : Standing). DriveEnds k (view o.1) (run.acts p) (run.mailed p)) (run.finished e p (let f = long in omega arith))
           o.4.tied in
           subst (λ (k : View S). next_of k.face ≡ Done) ev tied.1
 
@@ -221,8 +222,8 @@ module _ {N S P : Type 0} (view : N → View S) (is : P → Type 0) (count : P �
             sent = λ p q a b apart. sent_is p q a b apart ∙ (over.2 p q a b).0;
             taken = λ p q a b apart.
                 let o = node_at q b in
-                let tied : Ends Finished (view o.1) (run.acts q) (run.mailed q) =
-                subst (λ (k : Standing). Ends k (view o.1) (run.acts q) (run.mailed q))
+                let tied : DriveEnds Finished (view o.1) (run.acts q) (run.mailed q) =
+                subst (λ (k : Standing). DriveEnds k (view o.1) (run.acts q) (run.mailed q))
                 (run.finished e q (let f = long in omega arith)) o.4.tied in
                 taken_is p q a b apart ∙ ap (taken_of p) tied.0 ∙ (over.2 p q a b).1;
           }
@@ -242,6 +243,13 @@ module _ {N S P : Type 0} (view : N → View S) (is : P → Type 0) (count : P �
       done = all_done lock;
       at_end = at_end lock;
     }
+
+-- of equal lists
+pub run_of : {N S : Type 0} (view : N → View S) (works : View S → View S → Type 0) (xs old ys new : List N) (mails : List MailSeat)
+    (together : Standing) → xs ≡ old → new ≡ ys → HaveRun view works xs ys mails together → HaveRun view works old new mails together
+run_of {N} view works xs old ys new mails together a b run =
+    subst (λ (l : List N). HaveRun view works l new mails together) a
+    (subst (λ (l : List N). HaveRun view works xs l mails together) (sym b) run)
 
 module _ {N S : Type 0} (view : N → View S) (works : View S → View S → Type 0) (old new : List N) (mails : List MailSeat)
     (together : Standing) (run : HaveRun view works old new mails together) where

@@ -12,7 +12,7 @@ use Rattle.bsp_threads.specs.declared.seat.Standing.{Standing}
 use Rattle.bsp_threads.specs.declared.seat.Standing.TheVariants.{Going}
 use Rattle.bsp_threads.specs.declared.seat.DriveSeat.{DriveSeat}
 use Rattle.bsp_threads.specs.Seats.{IsReady, HasDone}
-use Rattle.bsp_threads.specs.Drives.{standing_after, Ends, Answers}
+use Rattle.bsp_threads.specs.Drives.{standing_after, DriveEnds, Answers}
 use Rattle.bsp_threads.specs.Rounds.{HasGone}
 use Rattle.bsp_threads.proofs.Acting.{then_done, ends_more, ends_of}
 
@@ -25,9 +25,9 @@ module _ {N S : Type 0} (view : N → View S) (works : View S → View S → Typ
     stays = λ other. absurd (other going);
     come = λ start so.
         let w = view t.node in
-        let moved = subst (λ (k : Standing). HasDone view works start (Ends k (view s.node)) s) going so in
-        then_done view works start s t (Answers r w) (Ends t.standing w) moved done
-        (λ xs acts mailed h. ends_more w t.standing xs acts mailed (subst (λ (k : Standing). Ends k w acts mailed) (sym after)
+        let moved = subst (λ (k : Standing). HasDone view works start (DriveEnds k (view s.node)) s) going so in
+        then_done view works start s t (Answers r w) (DriveEnds t.standing w) moved done
+        (λ xs acts mailed h. ends_more w t.standing xs acts mailed (subst (λ (k : Standing). DriveEnds k w acts mailed) (sym after)
         (ends_of w r acts mailed h)));
   }
 

@@ -6,12 +6,12 @@ use Rattle.bsp_core.specs.Lockstep.{IsEnd, upto}
 use Rattle.bsp_core.specs.Follows.{Act, Follows, put_to, taken_of}
 use Rattle.bsp_core.specs.Turns.{Begins, AreDone}
 use Rattle.bsp_mail.specs.declared.seat.MailSeat.{MailSeat}
-use Rattle.bsp_mail.specs.Mails.{IsPair, sent_on, taken_on, ArePrefixes}
+use Rattle.bsp_mail.specs.Mails.{IsPair, sent_on, taken_on, SameLists, ArePrefixes}
 use Rattle.bsp_threads.specs.declared.seat.Standing.{Standing}
 use Rattle.bsp_threads.specs.declared.seat.Standing.TheVariants.{Going, Finished, Strayed}
 use Rattle.bsp_threads.specs.declared.seat.DriveSeat.{DriveSeat}
 use Rattle.bsp_threads.specs.Seats.{AreWithOthers}
-use Rattle.bsp_threads.specs.Drives.{Ends}
+use Rattle.bsp_threads.specs.Drives.{DriveEnds}
 
 module _ {N : Type 0} where
   -- each seat has the node and the mail seat of its place, and is going
@@ -48,7 +48,7 @@ pub record WasLed {N S : Type 0} (view : N → View S) (works : View S → View 
   pub others : AreWithOthers p n mailed
   pub sent : (q : ℕ) → IsPair p q → sent_on mails p q ≡ put_to q mailed
   pub taken : (q : ℕ) → IsPair p q → taken_on mails q p ≡ taken_of q mailed
-  pub tied : Ends standing (view y) acts mailed
+  pub tied : DriveEnds standing (view y) acts mailed
 
 -- All nodes were led from the old to the new, the other seats have empty lists, and the Mail is settled. They stand together so.
 pub record HaveRun {N S : Type 0} (view : N → View S) (works : View S → View S → Type 0) (old new : List N) (mails : List MailSeat)
@@ -64,6 +64,11 @@ pub record HaveRun {N S : Type 0} (view : N → View S) (works : View S → View
   pub prefixes : ArePrefixes mails
   pub finished : together ≡ Finished → (p : ℕ) → p < length old → standings p ≡ Finished
   pub strayed : together ≡ Strayed → (p : ℕ) × (p < length old) × (standings p ≡ Strayed)
+
+-- once the Mail is settled, they have run
+abbrev pub WillHaveRun : {N S : Type 0} → (N → View S) → (View S → View S → Type 0) → List N → List N → List MailSeat → Standing → Type 0
+WillHaveRun view works old new mails together = (settled : List MailSeat) → SameLists mails settled → ArePrefixes settled
+    → HaveRun view works old new settled together
 
 -- the pairs of seats that aren't both below n have no letter
 abbrev pub AreEmptyFrom : ℕ → List MailSeat → Type 0

@@ -46,11 +46,11 @@ abbrev pub MayLackOne : List Act → List Act → Type 0
 MayLackOne acts mailed = (mailed ≡ acts) ⊎ ((to : ℕ) × (x : Letter) × (acts ≡ mailed ++ Sent to x ∷ []))
 
 -- what node and mail seat did, by how a seat stands
-abbrev pub Ends : {S : Type 0} → Standing → View S → List Act → List Act → Type 0
-Ends Going w acts mailed = mailed ≡ acts
-Ends IsFinished w acts mailed = (mailed ≡ acts) × (next_of w.face ≡ Done)
-Ends {S} Strayed w acts mailed = (wanted : Wanted) × (got : Letter) × HasStrayed w wanted got acts mailed
-Ends OutOfMemory w acts mailed = MayLackOne acts mailed
+abbrev pub DriveEnds : {S : Type 0} → Standing → View S → List Act → List Act → Type 0
+DriveEnds Going w acts mailed = mailed ≡ acts
+DriveEnds IsFinished w acts mailed = (mailed ≡ acts) × (next_of w.face ≡ Done)
+DriveEnds {S} Strayed w acts mailed = (wanted : Wanted) × (got : Letter) × HasStrayed w wanted got acts mailed
+DriveEnds OutOfMemory w acts mailed = MayLackOne acts mailed
 
 -- and by an answer
 abbrev pub Answers : {S : Type 0} → Result Drove DriveFault → View S → List Act → List Act → Type 0

@@ -5,12 +5,12 @@ use Rattle.bsp_mail.specs.declared.queues.Queues.{Queues}
 use Rattle.bsp_threads.specs.declared.seat.Standing.TheVariants.{Going, Finished, Strayed}
 use Rattle.bsp_threads.specs.declared.seat.DriveSeat.{DriveSeat}
 use Rattle.bsp_threads.specs.Seats.{HasDone, IsReady}
-use Rattle.bsp_threads.specs.Drives.{Ends}
+use Rattle.bsp_threads.specs.Drives.{DriveEnds}
 
 module _ {N S : Type 0} (view : N → View S) where
   -- how a seat got where it stands, from another on
   abbrev pub HasCome : (View S → View S → Type 0) → DriveSeat N → DriveSeat N → Type 0
-  HasCome works start s = HasDone view works start (Ends s.standing (view s.node)) s
+  HasCome works start s = HasDone view works start (DriveEnds s.standing (view s.node)) s
 
   -- The seat is ready again; it stays as it is unless it was going; and from wherever it had come, it still has.
   pub record HasGone (works : View S → View S → Type 0) (queues : Queues) (s t : DriveSeat N) : Type 0 where

@@ -1,6 +1,7 @@
 -- What a mail seat, and the seat of a node, has done.
 use Rattle.std.specs.Prelude.{◌≡◌, ◌≢◌, ℕ, ◌+◌, ◌^◌, ◌<◌, ◌≤◌, List, [], ◌∷◌, ◌++◌}
-use Rattle.bsp_core.specs.Views.{View}
+use Rattle.bsp_core.specs.declared.phased.Want.{Want}
+use Rattle.bsp_core.specs.Views.{View, next_of}
 use Rattle.bsp_core.specs.Follows.{Act, Sent, Took, Worked, Follows, put_to, taken_of}
 use Rattle.bsp_mail.specs.declared.queues.Queues.{Queues}
 use Rattle.bsp_mail.specs.declared.seat.MailSeat.{MailSeat}
@@ -34,6 +35,13 @@ module _ {N S : Type 0} (view : N → View S) where
   pub record IsReady (queues : Queues) (s : DriveSeat N) : Type 0 where
     pub mail : IsOpenOn queues s.mail
     pub number : (view s.node).face.me ≡ s.mail.me
+
+  -- and this exchange with node q, another one, is due
+  pub record IsDueWith (queues : Queues) (s : DriveSeat N) (want : Want) (q : ℕ) : Type 0 where
+    pub ready : IsReady queues s
+    pub due : next_of (view s.node).face ≡ want
+    pub other : (q < (view s.node).face.count) × (q ≢ s.mail.me)
+    pub few : (view s.node).face.count ≤ 16
 
   -- From seat s to seat t the node did `acts`, and the mail seat put and took the letters of `mailed`.
   -- `ended` says how the two are tied.

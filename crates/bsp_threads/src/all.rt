@@ -2,9 +2,9 @@
 ghost use Rattle.std.specs.Prelude.{◌≡◌, ◌≢◌, ◌≤◌, [], length, vec_len, vec_capacity, OnOk};
 ghost use Rattle.bsp_core.specs.Views.{WorksFor};
 ghost use Rattle.bsp_core.specs.Turns.{AreTogether, AreDone};
-ghost use Rattle.bsp_mail.specs.Mails.{IsFresh, ArePrefixes};
-ghost use Rattle.bsp_threads.specs.declared.seat.Standing.TheVariants.{Going};
-ghost use Rattle.bsp_threads.specs.Alls.{AreNumbered, HaveRun, AllFollow, AreEmptyFrom, AreWithinPlan, AreAtPlansEnd};
+ghost use Rattle.bsp_mail.specs.Mails.{IsWhole, IsFresh, ArePrefixes};
+ghost use Rattle.bsp_threads.specs.declared.seat.Standing.TheVariants.{Going, Finished, Strayed};
+ghost use Rattle.bsp_threads.specs.Alls.{AreNumbered, WillHaveRun, AllFollow, AreEmptyFrom, AreWithinPlan, AreAtPlansEnd};
 
 use crate::law::{run_law, start_law};
 use crate::places::{put_all_back, seat_all};
@@ -19,7 +19,7 @@ use std::mem;
 use std::sync::Wait;
 use std::thread::Threads;
 
-/// Drives nodes on seats of a fresh Mail, and settles it; there is room for all of them.
+/// Drives nodes on seats of a fresh Mail; there is room for all of them. Once that Mail is settled, they have run.
 fn drive_seats<R: Threads + Wait + Sync, N: Phased + Send, G: Gate>(
     rt: &R,
     alloc: Global,
@@ -34,14 +34,49 @@ fn drive_seats<R: Threads + Wait + Sync, N: Phased + Send, G: Gate>(
     requires room { (seats.items ≡ []) × (vec_len nodes ≤ vec_capacity seats) }
     requires room_back { (back.old.items ≡ []) × (vec_len nodes ≤ vec_capacity back.old) }
     ensures queues { mail.new.queues ≡ mail.old.queues }
-    ensures run { HaveRun N.view (WorksFor N.IsPlan N.count N.rows N.holds) nodes.items back.new.items mail.new.seats.items result }
+    ensures whole { IsWhole mail.new.queues mail.new.seats.items }
+    ensures run { WillHaveRun N.view (WorksFor N.IsPlan N.count N.rows N.holds) nodes.items back.new.items mail.new.seats.items result }
     ensures going { result ≢ Going }
 {
     let mut seats = seats;
     seat_all(alloc, nodes, &mut mail.seats, &mut seats);
     let standing = rounds(rt, &mail.queues, gate, seats.as_mut_slice());
     put_all_back(seats, &mut mail.seats, back);
+    standing
+}
+
+/// Drives all nodes and settles the Mail; there is room for all of them.
+fn drive_nodes<R: Threads + Wait + Sync, N: Phased + Send, G: Gate>(
+    rt: &R,
+    alloc: Global,
+    nodes: &mut NodeList<N>,
+    mail: &mut Mail,
+    gate: &G,
+    seats: Vec<DriveSeat<N>>,
+    back: Vec<N>,
+) -> Standing
+    requires together { AreTogether N.view N.IsPlan N.count N.rows N.holds nodes.old }
+    requires fresh { IsFresh mail.old.queues mail.old.seats.items }
+    requires room { (seats.items ≡ []) × (length nodes.old ≤ vec_capacity seats) }
+    requires room_back { (back.items ≡ []) × (length nodes.old ≤ vec_capacity back) }
+    ensures queues { mail.new.queues ≡ mail.old.queues }
+    ensures follow { AllFollow N.view (WorksFor N.IsPlan N.count N.rows N.holds) nodes.old nodes.new }
+    ensures empty { AreEmptyFrom (length nodes.old) mail.new.seats.items }
+    ensures prefixes { ArePrefixes mail.new.seats.items }
+    ensures straight { result ≢ Strayed }
+    ensures going { result ≢ Going }
+    ensures within { AreWithinPlan N.view N.IsPlan N.count N.rows N.holds nodes.old mail.new.seats.items }
+    ensures done { result ≡ Finished → AreDone N.view nodes.new }
+    ensures ended { result ≡ Finished →
+        AreAtPlansEnd N.view N.IsPlan N.count N.rows N.holds nodes.old nodes.new mail.new.seats.items }
+{
+    start_law::<N>();
+    let mut back = back;
+    let all = mem::replace(nodes, NodeList::new(alloc)).into_vec();
+    let standing = drive_seats(rt, alloc, all, mail, gate, seats, &mut back);
     mail.settle(rt);
+    *nodes = NodeList::from_vec(back);
+    run_law::<N>();
     standing
 }
 
@@ -73,12 +108,8 @@ pub fn drive_all<R: Threads + Wait + Sync, N: Phased + Send, G: Gate>(
     start_law::<N>();
     let count = nodes.len() as usize;
     let seats = Vec::with_capacity(alloc, count)?;
-    let mut back = Vec::with_capacity(alloc, count)?;
-    let all = mem::replace(nodes, NodeList::new(alloc)).into_vec();
-    let standing = drive_seats(rt, alloc, all, mail, gate, seats, &mut back);
-    *nodes = NodeList::from_vec(back);
-    run_law::<N>();
-    match standing {
+    let back = Vec::with_capacity(alloc, count)?;
+    match drive_nodes(rt, alloc, nodes, mail, gate, seats, back) {
         Standing::Finished => Ok(()),
         Standing::OutOfMemory => Err(Memory),
         Standing::Strayed => unreachable!(),

@@ -17,11 +17,11 @@ use std::thread;
 const LIMIT: u32 = 65_536;
 
 /// Moves the node step by step until it is done, or waits, or meets a fault.
-fn move_on<R: Wait, N: Phased, G: Gate>(
-    rt: &R,
+fn move_on<N: Phased>(
+    rt: &impl Wait,
     seat: &mut DriveSeat<N>,
     queues: &Queues,
-    gate: &G,
+    gate: &impl Gate,
 ) -> Result<Drove, DriveFault>
     requires ready { IsReady N.view queues.now seat.old }
     ensures ready { IsReady N.view queues.now seat.new }

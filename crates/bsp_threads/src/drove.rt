@@ -1,7 +1,3 @@
-ghost use Rattle.std.specs.Prelude.{◌≡◌};
-ghost use Rattle.bsp_threads.specs.Drives.{fault_of};
-
-use bsp_core::TakeFault;
 use chaos_letter::{Letter, Wanted};
 
 /// How a drive ended that met no fault: the node is done, or waits for a letter.
@@ -16,15 +12,4 @@ pub enum Drove {
 pub enum DriveFault {
     Stray { wanted: Wanted, got: Letter },
     Memory,
-}
-
-impl DriveFault {
-    /// The fault of a drive whose letter wasn't taken.
-    pub(crate) fn of(fault: TakeFault) -> DriveFault
-        ensures { result ≡ fault_of fault }
-    {
-        match fault {
-            TakeFault::Stray { wanted, got } => DriveFault::Stray { wanted, got },
-        }
-    }
 }

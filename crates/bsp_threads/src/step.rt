@@ -1,12 +1,12 @@
 //! One step of a seat.
-ghost use Rattle.std.specs.Prelude.{◌≡◌, ◌≢◌, ℕ, ◌<◌, ◌≤◌};
+ghost use Rattle.std.specs.Prelude.{◌≡◌};
 ghost use Rattle.bsp_core.specs.declared.phased.Want.TheVariants.{Send, Take, Work};
 ghost use Rattle.bsp_core.specs.Views.{next_of, WorksFor};
-ghost use Rattle.bsp_threads.specs.Seats.{IsReady};
-ghost use Rattle.bsp_threads.specs.Drives.{HasStepped};
+ghost use Rattle.bsp_threads.specs.Seats.{IsReady, IsDueWith};
+ghost use Rattle.bsp_threads.specs.Drives.{fault_of, HasStepped};
 
 use crate::{DriveFault, DriveSeat};
-use bsp_core::{Phased, Want};
+use bsp_core::{Phased, TakeFault, Want};
 use bsp_mail::Queues;
 use fd_outside::Gate;
 use std::sync::Wait;
@@ -19,13 +19,21 @@ pub enum Step {
     AtEnd,
 }
 
+impl DriveFault {
+    /// The fault of a drive whose letter wasn't taken.
+    fn of(fault: TakeFault) -> DriveFault
+        ensures { result ≡ fault_of fault }
+    {
+        match fault {
+            TakeFault::Stray { wanted, got } => DriveFault::Stray { wanted, got },
+        }
+    }
+}
+
 impl<N: Phased> DriveSeat<N> {
     /// The node posts its next letter, and the mail seat puts it.
     fn send<R: Wait>(&mut self, rt: &R, queues: &Queues, to: u32) -> Result<Step, DriveFault>
-        requires ready { IsReady N.view queues.now self.old }
-        requires due { next_of (N.view self.old.node).face ≡ Send to }
-        requires other { (to < (N.view self.old.node).face.count) × (to ≢ self.old.mail.me) }
-        requires few { (N.view self.old.node).face.count ≤ 16 }
+        requires { IsDueWith N.view queues.now self.old (Send to) to }
         ensures ready { IsReady N.view queues.now self.new }
         ensures stepped { HasStepped N.view (WorksFor N.IsPlan N.count N.rows N.holds) self.old result self.new }
     {
@@ -38,10 +46,7 @@ impl<N: Phased> DriveSeat<N> {
 
     /// The mail seat polls its line from another, and the node takes the letter that it gives.
     fn receive<R: Wait>(&mut self, rt: &R, queues: &Queues, from: u32) -> Result<Step, DriveFault>
-        requires ready { IsReady N.view queues.now self.old }
-        requires due { next_of (N.view self.old.node).face ≡ Take from }
-        requires other { (from < (N.view self.old.node).face.count) × (from ≢ self.old.mail.me) }
-        requires few { (N.view self.old.node).face.count ≤ 16 }
+        requires { IsDueWith N.view queues.now self.old (Take from) from }
         ensures ready { IsReady N.view queues.now self.new }
         ensures stepped { HasStepped N.view (WorksFor N.IsPlan N.count N.rows N.holds) self.old result self.new }
     {

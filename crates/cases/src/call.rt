@@ -27,7 +27,7 @@ fn add_data(alloc: Global, files: &mut MemoryFiles, text: &str) -> Result<(), Me
 }
 
 /// The data files, and the source, if there is one.
-pub(crate) fn files_of(alloc: Global, lines: &str) -> Result<MemoryFiles, Memory> {
+fn files_of(alloc: Global, lines: &str) -> Result<MemoryFiles, Memory> {
     let (data, source) = first_line(lines);
     let mut files = MemoryFiles::new(alloc, Numbers::new(alloc));
     if !source.is_empty() {
@@ -41,9 +41,11 @@ pub(crate) fn files_of(alloc: Global, lines: &str) -> Result<MemoryFiles, Memory
     Ok(files)
 }
 
-/// A sink that takes so few bytes in a call that each line is cut.
-pub(crate) fn sink(alloc: Global) -> Result<MemorySink, Memory> {
-    MemorySink::new(alloc, 65536, 5, Numbers::new(alloc))
+/// The files, and a sink that takes so few bytes in a call that each line is cut.
+pub(crate) fn outside_of(alloc: Global, lines: &str) -> Result<(MemoryFiles, MemorySink), Memory> {
+    let files = files_of(alloc, lines)?;
+    let out = MemorySink::new(alloc, 65536, 5, Numbers::new(alloc))?;
+    Ok((files, out))
 }
 
 /// Ends a line that stood so many times.

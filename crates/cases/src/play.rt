@@ -1,4 +1,4 @@
-use crate::call::{append_written, files_of, sink, words_of};
+use crate::call::{append_written, outside_of, words_of};
 use crate::letters::{append_count, append_letters, append_moves};
 use crate::text::first_line;
 use chaos_append::append_program;
@@ -47,8 +47,7 @@ pub(crate) fn play(
 ) -> Result<(), Memory> {
     let (words, rest) = first_line(lines);
     let words = words_of(alloc, words)?;
-    let mut files = files_of(alloc, rest)?;
-    let mut out = sink(alloc)?;
+    let (mut files, mut out) = outside_of(alloc, rest)?;
     let mut played = Played::new(alloc);
     let status = play_program(alloc, words.as_slice(), &mut files, &mut out, &mut played);
     append_end(alloc, told, status, out.written())?;
@@ -91,8 +90,7 @@ pub(crate) fn run<R: Threads + Wait + Sync>(
 ) -> Result<(), Memory> {
     let (words, rest) = first_line(lines);
     let words = words_of(alloc, words)?;
-    let mut files = files_of(alloc, rest)?;
-    let mut out = sink(alloc)?;
+    let (mut files, mut out) = outside_of(alloc, rest)?;
     let status = called(rt, alloc, program, words.as_slice(), &mut files, &mut out)?;
     append_end(alloc, told, status, out.written())
 }

@@ -1,83 +1,53 @@
 -- What an answer says.
-use Rattle.std.proofs.Common.{◌≡◌, ℕ, ◌⊎◌, ◌<◌, ◌≤◌, Bool, true, false, List, refl, ap, sym, ◌∙◌, subst, inl, inr, arith, get_or, length}
-use Rattle.std.specs.Prelude.{ℤ, pos, ◌≤ℤ◌, ◌||◌, int_lt, cond, Option, Some, None, Result, Ok, Err, IfOk, OnErr, OnOk, MatchResult}
+use Rattle.std.proofs.Common.{◌≡◌, ℕ, ◌⊎◌, ◌<◌, ◌≤◌, Bool, true, false, List, refl, ap, ◌∙◌, subst, inl, inr, arith, get_or, length}
+use Rattle.std.specs.Prelude.{ℤ, pos, ◌≤ℤ◌, ◌||◌, int_lt, nat_lt, cond, Option, Some, None, Result, Ok, Err, IfOk, OnErr, OnOk, MatchResult}
+use Rattle.std.specs.List.{position_or_len}
 use Rattle.std.proofs.lemmas.Bool.Decides.{nat_tests}
 use Rattle.std.proofs.lemmas.Int.{ints}
-use Rattle.fd_words.specs.declared.wanting.Memory as wanting
-use Rattle.fd_outside.specs.Causes.{Rose}
-use Rattle.fd_edge.specs.Endings.{IsStopped, IsWhole, IsWritten, Left, Outcome, StopsAs, a_line, left}
-use Rattle.fd_edge.specs.EndLaws.{complete as complete_whole, ended_whole, ends_line, ends_stop, stops_more}
-use Rattle.fd_edge.specs.Readings.{Reading}
-use Rattle.fd_edge.specs.declared.ending.Stop.{Stop}
-use Rattle.bsp_mail.specs.declared.mail.Mail.{Mail}
-use Rattle.std.specs.Prelude.{nat_lt}
-use Rattle.std.specs.List.{position_or_len}
 use Rattle.std.proofs.lemmas.List.Sums.{fails_before_first}
+use Rattle.fd_words.specs.declared.wanting.Memory as wanting
+use Rattle.fd_edge.specs.Comes.{comes_complete, comes_right, run_answers}
+use Rattle.fd_edge.specs.Endings.{IsWritten, Left, left}
+use Rattle.fd_edge.specs.Readings.{Reading}
+use Rattle.fd_edge.specs.Unusable.{unusable_failed, unusable_status}
+use Rattle.bsp_mail.specs.declared.mail.Mail.{Mail}
 use Rattle.chaos_bins.specs.Bins.{lines_of}
 use Rattle.chaos_bins.specs.Plan.{AppendPlan}
 use Rattle.chaos_append.specs.Asked.{AskedToAppend}
 use Rattle.chaos_append.specs.Letters.{AreAppendedInPart, AreAppendedWhole}
-use Rattle.chaos_append.specs.Outcomes.{IsAnswered, IsCompleted, IsCut, NoneFailed, RanRight, ToCome, plan_by, plan_for, ran, stopped}
-use Rattle.chaos_append.specs.Outcomes.{the_bins, the_values, untaken, usage_line}
-use Rattle.chaos_append.specs.Reading.{Gives, IsUnusable, Stops, faulty, first_outside, in_bins, in_values, is_outside, no_such_bin, unread}
+use Rattle.chaos_append.specs.Outcomes.{Accepted, IsAnswered, IsCompleted, IsCut, IsRun, NoneFailed, RanRight, Runs, plan_by, plan_for}
+use Rattle.chaos_append.specs.Outcomes.{the_bins, the_values, usage_line}
+use Rattle.chaos_append.specs.Reading.{GivesParticles, ReadingStops, first_outside, in_bins, in_values, is_outside, no_such_bin}
 
--- ---- answers
-
--- words that ask for nothing
-pub untaken_answers : (request : Option AskedToAppend) (r : Reading) (result before now : ℕ) (old new : Option (List ℕ)) (mail : Mail)
-    → request ≡ None → IsWritten 2 usage_line result before now old new
-    → IsAnswered request r result (left before old mail) (left now new mail)
-untaken_answers request r result before now old new mail is written =
-    ends_line (ToCome request r) (IsCut request r) 2 usage_line result before now old new mail (untaken is) written
-
--- no particles
-pub stop_answers : (w : AskedToAppend) (r : Reading) (stop : Stop) (result before now : ℕ) (old new : Option (List ℕ)) (mail : Mail)
-    → StopsAs (Stops w r) stop → IsStopped stop result before now old new
-    → IsAnswered (Some w) r result (left before old mail) (left now new mail)
-stop_answers w r stop result before now old new mail says ends =
-    ends_stop (ToCome (Some w) r) (IsCut (Some w) r) stop result before now old new mail
-    (stops_more (Stops w r) (λ status line. ToCome (Some w) r (a_line status line)) stop (λ status line s. stopped w refl status line s)
-    says)
-    (inl refl) ends
-
--- a run
-run_answers : (w : AskedToAppend) (r : Reading) (firsts amounts : List ℤ) (run : Result (List ℕ) wanting.Memory) (result before now : ℕ)
-    (written written-1 : Option (List ℕ)) (old new : Mail) → Gives w r firsts amounts
-    → IfOk run (λ text. text ≡ lines_of w.bins w.steps (plan_for w firsts amounts).particles)
-    → OnOk run (AreAppendedWhole (plan_for w firsts amounts) new.seats.items)
-    → OnErr run ((new ≡ old) ⊎ AreAppendedInPart (plan_for w firsts amounts) new.seats.items)
-    → MatchResult run (λ text. IsWritten 0 text result before now written written-1) (λ memory. (result ≡ 70) × (written-1 ≡ written))
-    → IsAnswered (Some w) r result (left before written old) (left now written-1 new)
-run_answers w r firsts amounts (Ok text) result before now written written-1 old new gives lines whole cut ends =
-    inl (
-      record { status = 0; bytes = text; letters = Some new },
-      (
-        ran (record { asked = w; taken = refl; firsts = firsts; amounts = amounts; given = gives }) _
-            (record { status = refl; bytes = lines; letters = whole }),
-        record { wrote = ends; letters = refl },
-      ),
-    )
-run_answers w r firsts amounts (Err m) result before now written written-1 old new gives lines whole cut ends =
-    inr (record { status = ends.0; written = ends.1; letters = by cut })
-  where
-    by : (new ≡ old) ⊎ AreAppendedInPart (plan_for w firsts amounts) new.seats.items → IsCut (Some w) r old new
-    by (inl same) = inl same
-    by (inr part) = inr (record { asked = w; taken = refl; firsts = firsts; amounts = amounts; given = gives }, part)
-
--- the same of the plan of a job
+-- a run of the plan of a job
 pub job_answers : (w : AskedToAppend) (r : Reading) (plan : AppendPlan) (firsts amounts : List ℤ) (run : Result (List ℕ) wanting.Memory)
-    (result before now : ℕ) (written written-1 : Option (List ℕ)) (old new : Mail) → plan ≡ plan_for w firsts amounts
-    → Gives w r firsts amounts
-    → IfOk run (λ text. text ≡ lines_of plan.bins plan.steps plan.particles)
-    → OnOk run (AreAppendedWhole plan new.seats.items)
+    (result before now : ℕ) (was is : Option (List ℕ)) (old new : Mail) → plan ≡ plan_for w firsts amounts
+    → GivesParticles w r firsts amounts
+    → IfOk run (λ text. text ≡ lines_of plan.bins plan.steps plan.particles) → OnOk run (AreAppendedWhole plan new.seats.items)
     → OnErr run ((new ≡ old) ⊎ AreAppendedInPart plan new.seats.items)
-    → MatchResult run (λ text. IsWritten 0 text result before now written written-1) (λ memory. (result ≡ 70) × (written-1 ≡ written))
-    → IsAnswered (Some w) r result (left before written old) (left now written-1 new)
-job_answers w r plan firsts amounts run result before now written written-1 old new is gives lines whole cut ends =
-    run_answers w r firsts amounts run result before now written written-1 old new gives
-    (subst (λ (p : AppendPlan). IfOk run (λ text. text ≡ lines_of p.bins p.steps p.particles)) is lines)
-    (subst (λ (p : AppendPlan). OnOk run (AreAppendedWhole p new.seats.items)) is whole)
-    (subst (λ (p : AppendPlan). OnErr run ((new ≡ old) ⊎ AreAppendedInPart p new.seats.items)) is cut) ends
+    → MatchResult run (λ text. IsWritten 0 text result before now was is) (λ memory. (result ≡ 70) × (is ≡ was))
+    → IsAnswered (Some w) r result (left before was old) (left now is new)
+job_answers w r plan firsts amounts run result before now was is old new same gives lines whole cut ends =
+    let accepted : Accepted (Some w) r = record { asked = w; taken = refl; firsts = firsts; amounts = amounts; given = gives } in
+    let end = run_answers usage_line (λ v. ReadingStops v r)
+    (Accepted (Some w) r) (IsRun (Some w) r) (Some w) (IsCut (Some w) r) accepted run
+    result before now was is old new in
+    end (runs run (subst (λ (p : AppendPlan). IfOk run (λ text. text ≡ lines_of p.bins p.steps p.particles)) same lines)
+    (subst (λ (p : AppendPlan). OnOk run (AreAppendedWhole p new.seats.items)) same whole))
+    (part run (subst (λ (p : AppendPlan). OnErr run ((new ≡ old) ⊎ AreAppendedInPart p new.seats.items)) same cut)) ends
+  where
+    runs : (run : Result (List ℕ) wanting.Memory)
+        → IfOk run (λ text. text ≡ lines_of w.bins w.steps (plan_for w firsts amounts).particles)
+        → OnOk run (AreAppendedWhole (plan_for w firsts amounts) new.seats.items)
+        → IfOk run (λ text. Runs (plan_for w firsts amounts) (record { status = 0; bytes = text; letters = Some new }))
+    runs (Ok text) lines whole = record { status = refl; bytes = lines; letters = whole }
+    runs (Err m) lines whole = tt
+
+    part : (run : Result (List ℕ) wanting.Memory) → OnErr run ((new ≡ old) ⊎ AreAppendedInPart (plan_for w firsts amounts) new.seats.items)
+        → OnErr run (IsCut (Some w) r old new)
+    part (Ok text) cut = tt
+    part (Err m) (inl stays) = inl stays
+    part (Err m) (inr some) = inr (record { asked = w; taken = refl; firsts = firsts; amounts = amounts; given = gives }, some)
 
 pub same_plan : (w : AskedToAppend) (bins steps count : ℕ) (firsts amounts : List ℤ) → bins ≡ w.bins → steps ≡ w.steps → count ≡ w.count
     → plan_by bins steps w.nodes count firsts amounts ≡ plan_for w firsts amounts
@@ -114,49 +84,29 @@ pub all_inside : (bins : ℕ) (xs : List ℤ) → first_outside bins xs ≡ None
 all_inside bins xs e k d low =
     inside (get_or xs k d) bins (fails_before_first (is_outside bins) xs k d (omega (arith, low, none_before bins xs e)))
 
--- ---- 69 comes of a failed read alone
+-- ---- whatever was asked for
 
-unused : {r : Reading} {count : ℕ} {name : List ℕ} {status : ℕ} {line : List ℕ} → IsUnusable r count name status line → status ≡ 69
-    → Rose (r.before name) (r.now name)
-unused (unread rose) e = rose
-unused (faulty fault has) e = absurd (omega (arith, e))
+failed_stop : (request : Option AskedToAppend) (r : Reading) {status : ℕ} {line : List ℕ} (w : AskedToAppend) → request ≡ Some w
+    → NoneFailed request r → ReadingStops w r status line → status ≡ 69 → ⊥
+failed_stop request r w is none (in_bins status line u) e = none w.bin_file (the_bins w is) (unusable_failed u e)
+failed_stop request r w is none (no_such_bin firsts read at first) e = omega (arith, e)
+failed_stop request r w is none (in_values firsts read status line u) e =
+    none w.value_file (the_values w is firsts read) (unusable_failed u e)
 
-unusable_status : {r : Reading} {count : ℕ} {name : List ℕ} {status : ℕ} {line : List ℕ} → IsUnusable r count name status line
-    → status ≡ 0 → ⊥
-unusable_status (unread rose) e = omega (arith, e)
-unusable_status (faulty fault has) e = omega (arith, e)
+no_run : {w : AskedToAppend} {r : Reading} {status : ℕ} {line : List ℕ} → ReadingStops w r status line → status ≡ 0 → ⊥
+no_run (in_bins status line u) e = unusable_status u e
+no_run (no_such_bin firsts read at first) e = omega (arith, e)
+no_run (in_values firsts read status line u) e = unusable_status u e
 
-module _ (request : Option AskedToAppend) (r : Reading) where
-  failed_stop : {status : ℕ} {line : List ℕ} (w : AskedToAppend) → request ≡ Some w → NoneFailed request r → Stops w r status line
-      → status ≡ 69 → ⊥
-  failed_stop w is none (in_bins status line u) e = none w.bin_file (the_bins w is) (unused u e)
-  failed_stop w is none (no_such_bin firsts read at first) e = omega (arith, e)
-  failed_stop w is none (in_values firsts read status line u) e = none w.value_file (the_values w is firsts read) (unused u e)
+pub completes : (request : Option AskedToAppend) (r : Reading) (result : ℕ) (old new : Left Mail) → IsAnswered request r result old new
+    → IsCompleted request r result old new
+completes request r result old new ends sink none =
+    comes_complete usage_line (λ v. ReadingStops v r)
+    (Accepted request r) (IsRun request r) request (IsCut request r) (λ a o runs. runs.status)
+    result old new (λ w status line is stops e. failed_stop request r w is none stops e) ends sink
 
-  failed : {o : Outcome Mail} → NoneFailed request r → ToCome request r o → o.status ≡ 69 → ⊥
-  failed none (untaken is) e = omega (arith, e)
-  failed none (stopped w is status line stops) e = failed_stop w is none stops e
-  failed none (ran a o runs) e = omega (arith, e, runs.status)
-
-  pub completes : (result : ℕ) (old new : Left Mail) → IsAnswered request r result old new → IsCompleted request r result old new
-  completes result old new ends sink none =
-      complete_whole (ToCome request r) (IsCut request r) result old new (λ o comes. failed none comes) sink ends
-
-  -- ---- 0 comes of a run alone
-
-  no_run : {w : AskedToAppend} {status : ℕ} {line : List ℕ} → Stops w r status line → status ≡ 0 → ⊥
-  no_run (in_bins status line u) e = unusable_status u e
-  no_run (no_such_bin firsts read at first) e = omega (arith, e)
-  no_run (in_values firsts read status line u) e = unusable_status u e
-
-  ran_by : {o : Outcome Mail} (result : ℕ) (old new : Left Mail) → ToCome request r o → result ≡ 0 → IsWhole o result old new
-      → RanRight request r result old new
-  ran_by result old new (untaken is) is_zero whole = absurd (omega (arith, is_zero, whole.status))
-  ran_by result old new (stopped w is status line stops) is_zero whole = absurd (no_run stops (sym whole.status ∙ is_zero))
-  ran_by result old new (ran a o runs) is_zero whole = record { accepted = a; outcome = o; run = runs; whole = whole }
-
-  pub ran_right : (result : ℕ) (old new : Left Mail) → IsAnswered request r result old new → result ≡ 0 → RanRight request r result old new
-  ran_right result old new ends is_zero =
-      let whole = ended_whole (ToCome request r) (IsCut request r) result old new (λ e. omega (arith, e, is_zero))
-      (λ e. omega (arith, e, is_zero)) ends in
-      ran_by result old new whole.1.0 is_zero whole.1.1
+pub ran_right : (request : Option AskedToAppend) (r : Reading) (result : ℕ) (old new : Left Mail) → IsAnswered request r result old new
+    → result ≡ 0 → RanRight request r result old new
+ran_right request r result old new =
+    comes_right usage_line (λ v. ReadingStops v r) (Accepted request r) (IsRun request r) request (IsCut request r) result old new
+    (λ w status line stops e. no_run stops e)

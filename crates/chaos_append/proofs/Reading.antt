@@ -10,18 +10,13 @@ use Rattle.fd_data.specs.declared.read.DataFault.{DataFault}
 use Rattle.fd_data.specs.declared.read.DataFault.TheVariants.{Count}
 use Rattle.fd_edge.specs.Endings.{StopsAs, stop_of}
 use Rattle.fd_edge.specs.EndLaws.{stops_more}
-use Rattle.fd_edge.specs.Files.{Reads, HasDataFault}
+use Rattle.fd_edge.specs.Files.{Reads}
 use Rattle.fd_edge.specs.Lines.{record_line}
-use Rattle.fd_edge.specs.Readings.{Told, Counts, Reading, reading, rose_within}
+use Rattle.fd_edge.specs.Readings.{Told, Counts, Reading, reading}
+use Rattle.fd_edge.specs.Unusable.{IsUnusable, unusable_within}
 use Rattle.fd_edge.specs.declared.ending.Stop.{Stop}
 use Rattle.chaos_append.specs.Asked.{AskedToAppend}
-use Rattle.chaos_append.specs.Reading.{AreBins, AreRead, IsBinsEnd, IsUnusable, Stops, first_outside, in_bins, in_values, no_such_bin}
-
--- the line of a file that gave no numbers
-pub stops_with : (r : Reading) (count : ℕ) (name : List ℕ) (status : ℕ) (line : Result (List ℕ) wanting.Memory) (bytes : List ℕ)
-    → IfOk line (λ l. l ≡ bytes) → IsUnusable r count name status bytes → StopsAs (IsUnusable r count name) (stop_of status line)
-stops_with r count name status (Ok line) bytes is unusable = subst (IsUnusable r count name status) (sym is) unusable
-stops_with r count name status (Err memory) bytes is unusable = tt
+use Rattle.chaos_append.specs.Reading.{AreBins, AreRead, IsBinsEnd, ReadingStops, first_outside, in_bins, in_values, no_such_bin}
 
 -- a line as it was to be
 pub line_says : (status : ℕ) (line : Result (List ℕ) wanting.Memory) (bytes : List ℕ) → IfOk line (λ l. l ≡ bytes)
@@ -29,18 +24,10 @@ pub line_says : (status : ℕ) (line : Result (List ℕ) wanting.Memory) (bytes 
 line_says status (Ok line) bytes is = (refl, is)
 line_says status (Err memory) bytes is = tt
 
--- a file that gave no numbers in a part of a call
-unusable_within : (contents from_contents : Told) (before from now : Counts) (count : ℕ) (name : List ℕ) (status : ℕ) (line : List ℕ)
-    → from_contents ≡ contents → NoneFell before from → IsUnusable (reading from_contents from now) count name status line
-    → IsUnusable (reading contents before now) count name status line
-unusable_within contents from_contents before from now count name status line same none (IsUnusable.unread rose) =
-    IsUnusable.unread (rose_within (before name) (from name) (now name) (now name) (none name) (omega arith) rose)
-unusable_within contents from_contents before from now count name status line same none (IsUnusable.faulty fault has) =
-    IsUnusable.faulty fault (subst (λ told. HasDataFault told name count fault) same has)
-
 -- the first file gave no numbers
-pub no_bins : (w : AskedToAppend) (r : Reading) (stop : Stop) → StopsAs (IsUnusable r w.count w.bin_file) stop → StopsAs (Stops w r) stop
-no_bins w r stop stops = stops_more (IsUnusable r w.count w.bin_file) (Stops w r) stop (λ status line u. in_bins status line u) stops
+pub no_bins : (w : AskedToAppend) (r : Reading) (stop : Stop) → StopsAs (IsUnusable r w.count w.bin_file) stop
+    → StopsAs (ReadingStops w r) stop
+no_bins w r stop stops = stops_more (IsUnusable r w.count w.bin_file) (ReadingStops w r) stop (λ status line u. in_bins status line u) stops
 
 -- it gave numbers
 pub bins_end : (w : AskedToAppend) (r : Reading) (numbers : List ℤ) (result : Result (List ℤ) Stop)
@@ -52,15 +39,16 @@ bins_end w r numbers (Ok firsts) read is = record {
 }
 bins_end w r numbers (Err stop) read is =
     let line = record_line w.bin_file (is.0 + 1) (codes "no such bin") in
-    stops_more (λ s l. (s ≡ 66) × (l ≡ line)) (Stops w r) stop
-    (λ s l e. subst (λ k. Stops w r k l) (sym e.0) (subst (Stops w r 66) (sym e.1) (no_such_bin numbers read is.0 is.1))) is.2
+    stops_more (λ s l. (s ≡ 66) × (l ≡ line)) (ReadingStops w r) stop
+    (λ s l e. subst (λ k. ReadingStops w r k l) (sym e.0) (subst (ReadingStops w r 66) (sym e.1) (no_such_bin numbers read is.0 is.1))) is.2
 
 -- the second file gave no numbers in the rest of a call
 pub no_values : (w : AskedToAppend) (contents from_contents : Told) (before from now : Counts) (firsts : List ℤ) (stop : Stop)
     → from_contents ≡ contents → NoneFell before from → AreRead w (reading contents before now) firsts
-    → StopsAs (IsUnusable (reading from_contents from now) w.count w.value_file) stop → StopsAs (Stops w (reading contents before now)) stop
+    → StopsAs (IsUnusable (reading from_contents from now) w.count w.value_file) stop
+    → StopsAs (ReadingStops w (reading contents before now)) stop
 no_values w contents from_contents before from now firsts stop same none read stops =
-    stops_more (IsUnusable (reading from_contents from now) w.count w.value_file) (Stops w (reading contents before now)) stop
+    stops_more (IsUnusable (reading from_contents from now) w.count w.value_file) (ReadingStops w (reading contents before now)) stop
     (λ status line u.
     in_values firsts read status line (unusable_within contents from_contents before from now w.count w.value_file status line same none
     u)) stops

@@ -27,8 +27,8 @@ asked_to_append (bins ∷ steps ∷ count ∷ nodes ∷ bin_file ∷ value_file 
     asked_by (number_in 1 65536 bins) (number_in 0 1000 steps) (number_in 1 1048576 count) (number_in 1 16 nodes) bin_file value_file
 asked_to_append other = None
 
-abbrev pub shown : Asked → AskedToAppend
-shown asked = record {
+abbrev pub shown_asked : Asked → AskedToAppend
+shown_asked asked = record {
   bins = asked.bins;
   steps = asked.steps;
   count = asked.count;

@@ -1,14 +1,15 @@
 -- What comes of a call, what it answers, and what it says where nothing failed.
-use Rattle.std.specs.Prelude.{ℕ, ℤ, ◌≡◌, ◌⊎◌, List, Option, Some, None, IsSomeAnd, codes}
+use Rattle.std.specs.Prelude.{ℕ, ℤ, ◌≡◌, ◌⊎◌, List, Option, Some, IsSomeAnd, codes}
 use Rattle.fd_outside.specs.Causes.{Rose}
-use Rattle.fd_edge.specs.Endings.{EndsBy, IsComplete, IsWhole, Left, Outcome, a_line}
+use Rattle.fd_edge.specs.Comes.{Comes, HasRun}
+use Rattle.fd_edge.specs.Endings.{EndsBy, IsComplete, Left, Outcome}
 use Rattle.fd_edge.specs.Readings.{Reading}
 use Rattle.bsp_mail.specs.declared.mail.Mail.{Mail}
 use Rattle.chaos_bins.specs.Bins.{lines_of}
 use Rattle.chaos_bins.specs.Plan.{AppendPlan}
 use Rattle.chaos_append.specs.Asked.{AskedToAppend}
 use Rattle.chaos_append.specs.Letters.{AreAppendedInPart, AreAppendedWhole}
-use Rattle.chaos_append.specs.Reading.{AreRead, Gives, Stops}
+use Rattle.chaos_append.specs.Reading.{AreRead, GivesParticles, ReadingStops}
 
 unfoldable pub usage_line : List ℕ
 usage_line = codes "usage: chaosappend BINS STEPS COUNT NODES BINFILE VALUEFILE\n"
@@ -31,7 +32,7 @@ pub record Accepted (request : Option AskedToAppend) (r : Reading) : Type 0 wher
   pub taken : request ≡ Some asked
   pub firsts : List ℤ
   pub amounts : List ℤ
-  pub given : Gives asked r firsts amounts
+  pub given : GivesParticles asked r firsts amounts
 
 -- a run: the lines of the final bins, and letters by which the particles were appended
 pub record Runs (plan : AppendPlan) (o : Outcome Mail) : Type 0 where
@@ -42,12 +43,12 @@ pub record Runs (plan : AppendPlan) (o : Outcome Mail) : Type 0 where
 abbrev pub plan_in : {request : Option AskedToAppend} {r : Reading} → Accepted request r → AppendPlan
 plan_in a = plan_for a.asked a.firsts a.amounts
 
+abbrev pub IsRun : (request : Option AskedToAppend) (r : Reading) → Accepted request r → Outcome Mail → Type 0
+IsRun request r a o = Runs (plan_in a) o
+
 -- the usage line for words that aren't taken; or for what they ask for a line where there are no particles, and else its run
-pub data ToCome (request : Option AskedToAppend) (r : Reading) : Outcome Mail → Type 0 where
-  untaken : request ≡ None → ToCome request r (a_line 2 usage_line)
-  stopped : (w : AskedToAppend) → request ≡ Some w → (status : ℕ) (line : List ℕ) → Stops w r status line
-      → ToCome request r (a_line status line)
-  ran : (a : Accepted request r) → (o : Outcome Mail) → Runs (plan_in a) o → ToCome request r o
+abbrev pub ToCome : Option AskedToAppend → Reading → Outcome Mail → Type 0
+ToCome request r = Comes usage_line (λ w. ReadingStops w r) (Accepted request r) (IsRun request r) request
 
 -- where memory is wanting: the Mail is as it was, or has the first of the letters of a run of what words ask for
 abbrev pub IsCut : Option AskedToAppend → Reading → Mail → Mail → Type 0
@@ -71,8 +72,5 @@ IsCompleted request r result old new =
     (Rose old.failures new.failures → ⊥) → NoneFailed request r → IsComplete (ToCome request r) (IsCut request r) result old new
 
 -- the particles were moved right, all lines were written, and the letters stand
-pub record RanRight (request : Option AskedToAppend) (r : Reading) (result : ℕ) (old new : Left Mail) : Type 0 where
-  pub accepted : Accepted request r
-  pub outcome : Outcome Mail
-  pub run : Runs (plan_in accepted) outcome
-  pub whole : IsWhole outcome result old new
+abbrev pub RanRight : Option AskedToAppend → Reading → ℕ → Left Mail → Left Mail → Type 0
+RanRight request r result old new = HasRun (Accepted request r) (IsRun request r) result old new

@@ -1,11 +1,10 @@
 -- The particles that the files give: first bins, each one of the bins, and values.
 use Rattle.std.specs.Prelude.{ℕ, ℤ, pos, ◌≡◌, ◌+◌, ◌||◌, Bool, int_lt, List, Option, Some, None, Result, Ok, Err, codes, position}
-use Rattle.fd_outside.specs.Causes.{Rose}
-use Rattle.fd_data.specs.declared.read.DataFault.{DataFault}
 use Rattle.fd_edge.specs.Endings.{StopsAs}
-use Rattle.fd_edge.specs.Files.{HasDataFault, Reads}
-use Rattle.fd_edge.specs.Lines.{data_line, record_line, unread_line}
+use Rattle.fd_edge.specs.Files.{Reads}
+use Rattle.fd_edge.specs.Lines.{record_line}
 use Rattle.fd_edge.specs.Readings.{Reading}
+use Rattle.fd_edge.specs.Unusable.{IsUnusable}
 use Rattle.fd_edge.specs.declared.ending.Stop.{Stop}
 use Rattle.chaos_append.specs.Asked.{AskedToAppend}
 use Rattle.chaos_append.specs.declared.particles.Particles.{Particles}
@@ -17,11 +16,6 @@ is_outside bins b = int_lt b (pos 1) || int_lt (pos bins) b
 abbrev pub first_outside : ℕ → List ℤ → Option ℕ
 first_outside bins numbers = position (is_outside bins) numbers
 
--- why a file gives no numbers, with the status and the line that say so: it can't be read, or has a fault
-pub data IsUnusable (r : Reading) (count : ℕ) (name : List ℕ) : ℕ → List ℕ → Type 0 where
-  unread : Rose (r.before name) (r.now name) → IsUnusable r count name 69 (unread_line name)
-  faulty : (fault : DataFault) → HasDataFault r.contents name count fault → IsUnusable r count name 66 (data_line name fault)
-
 -- the file of first bins was read, and each is one of the bins
 pub record AreRead (w : AskedToAppend) (r : Reading) (firsts : List ℤ) : Type 0 where
   pub read : Reads r.contents w.bin_file w.count (Ok firsts)
@@ -29,15 +23,15 @@ pub record AreRead (w : AskedToAppend) (r : Reading) (firsts : List ℤ) : Type 
 
 -- Why there are no particles: the first file gives no numbers, or one that isn't one of the bins; or they are, and the second
 -- file gives no numbers.
-pub data Stops (w : AskedToAppend) (r : Reading) : ℕ → List ℕ → Type 0 where
-  in_bins : (status : ℕ) (line : List ℕ) → IsUnusable r w.count w.bin_file status line → Stops w r status line
+pub data ReadingStops (w : AskedToAppend) (r : Reading) : ℕ → List ℕ → Type 0 where
+  in_bins : (status : ℕ) (line : List ℕ) → IsUnusable r w.count w.bin_file status line → ReadingStops w r status line
   no_such_bin : (firsts : List ℤ) → Reads r.contents w.bin_file w.count (Ok firsts) → (at : ℕ) → first_outside w.bins firsts ≡ Some at
-      → Stops w r 66 (record_line w.bin_file (at + 1) (codes "no such bin"))
+      → ReadingStops w r 66 (record_line w.bin_file (at + 1) (codes "no such bin"))
   in_values : (firsts : List ℤ) → AreRead w r firsts → (status : ℕ) (line : List ℕ) → IsUnusable r w.count w.value_file status line
-      → Stops w r status line
+      → ReadingStops w r status line
 
 -- the particles of the files
-pub record Gives (w : AskedToAppend) (r : Reading) (firsts amounts : List ℤ) : Type 0 where
+pub record GivesParticles (w : AskedToAppend) (r : Reading) (firsts amounts : List ℤ) : Type 0 where
   pub bins : AreRead w r firsts
   pub values : Reads r.contents w.value_file w.count (Ok amounts)
 
@@ -52,8 +46,8 @@ AreBins name bins numbers (Err stop) =
 
 abbrev pub IsBinsEnd : Reading → AskedToAppend → Result (List ℤ) Stop → Type 0
 IsBinsEnd r w (Ok firsts) = AreRead w r firsts
-IsBinsEnd r w (Err stop) = StopsAs (Stops w r) stop
+IsBinsEnd r w (Err stop) = StopsAs (ReadingStops w r) stop
 
 abbrev pub IsParticlesEnd : Reading → AskedToAppend → Result Particles Stop → Type 0
-IsParticlesEnd r w (Ok particles) = Gives w r particles.bins particles.values
-IsParticlesEnd r w (Err stop) = StopsAs (Stops w r) stop
+IsParticlesEnd r w (Ok particles) = GivesParticles w r particles.bins particles.values
+IsParticlesEnd r w (Err stop) = StopsAs (ReadingStops w r) stop

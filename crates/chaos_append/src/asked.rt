@@ -1,6 +1,6 @@
 ghost use Rattle.std.specs.Prelude.{◌≡◌, ◌≤◌, ◌&&◌, map, string_bytes, option_map, IfSome};
 ghost use Rattle.fd_spell.specs.Spelled.{is_name};
-ghost use Rattle.chaos_append.specs.Asked.{asked_to_append, shown};
+ghost use Rattle.chaos_append.specs.Asked.{asked_to_append, shown_asked};
 
 use fd_spell::{is_name, number};
 
@@ -26,7 +26,7 @@ fn are_names(bin_file: &str, value_file: &str) -> bool
 /// What the words ask for, if they are BINS, STEPS, COUNT, NODES, BINFILE and VALUEFILE: 1 to 65,536 bins, at most
 /// 1,000 steps, 1 to 1,048,576 particles, 1 to 16 nodes.
 pub(crate) fn asked_by<'a>(words: &'a [String]) -> Option<Asked<'a>>
-    ensures asked { option_map shown result ≡ asked_to_append (map string_bytes words.entry.now) }
+    ensures asked { option_map shown_asked result ≡ asked_to_append (map string_bytes words.entry.now) }
     ensures fits { IfSome result (λ a. (1 ≤ a.bins) × (a.bins ≤ 65536) × (a.steps ≤ 1000) × (1 ≤ a.count) × (a.count ≤ 1048576)
         × (1 ≤ a.nodes) × (a.nodes ≤ 16)) }
 {

@@ -1,13 +1,11 @@
-ghost use Rattle.std.specs.Prelude.{◌≡◌, ℕ, ◌+◌, ◌≤◌, position, Err};
+ghost use Rattle.std.specs.Prelude.{◌≡◌, ◌+◌, ◌≤◌, position};
 ghost use Rattle.fd_outside.specs.Causes.{NoneFell};
-ghost use Rattle.fd_edge.specs.Endings.{StopsAs};
-ghost use Rattle.fd_edge.specs.Files.{IsFileEnd};
-ghost use Rattle.fd_edge.specs.Readings.{Reading, files_read};
-ghost use Rattle.chaos_append.specs.Asked.{shown};
-ghost use Rattle.chaos_append.specs.Reading.{AreBins, IsParticlesEnd, IsBinsEnd, IsUnusable, first_outside, is_outside};
+ghost use Rattle.fd_edge.specs.Readings.{files_read};
+ghost use Rattle.chaos_append.specs.Asked.{shown_asked};
+ghost use Rattle.chaos_append.specs.Reading.{AreBins, IsParticlesEnd, IsBinsEnd, first_outside, is_outside};
 
 use crate::asked::Asked;
-use fd_edge::{FileStop, Stop, fault_line, read_numbers, record_line, unread_line};
+use fd_edge::{Stop, read_numbers, record_line, stop_for};
 use fd_outside::Files;
 use fd_words::Numbers;
 use std::alloc::Global;
@@ -27,17 +25,6 @@ fn first_outside(bins: u32, numbers: &[i64]) -> Option<usize>
     numbers.iter().position(|b| *b < 1 || *b > last)
 }
 
-/// The line for a file that gave no numbers, with its status.
-fn stop_for(alloc: Global, name: &str, stop: FileStop) -> Stop
-    ensures { (r : Reading) (count : ℕ) → IsFileEnd r name.now count (Err stop) → StopsAs (IsUnusable r count name.now) result }
-{
-    match stop {
-        FileStop::Unread => Stop::of(69, unread_line(alloc, name)),
-        FileStop::Fault(fault) => Stop::of(66, fault_line(alloc, name.as_bytes(), fault)),
-        FileStop::Memory => Stop::Memory,
-    }
-}
-
 /// The first bins, if each is one of the bins.
 fn bins_within(alloc: Global, name: &str, bins: u32, numbers: Numbers) -> Result<Numbers, Stop>
     ensures { AreBins name.now bins numbers result }
@@ -54,7 +41,7 @@ fn bins_within(alloc: Global, name: &str, bins: u32, numbers: Numbers) -> Result
 
 /// Reads the file of first bins.
 fn read_bins<F: Files>(alloc: Global, files: &mut F, asked: &Asked<'_>) -> Result<Numbers, Stop>
-    ensures read { IsBinsEnd (files_read F.contents F.faults files.old files.new) (shown asked.now) result }
+    ensures read { IsBinsEnd (files_read F.contents F.faults files.old files.new) (shown_asked asked.now) result }
     ensures contents { F.contents files.new ≡ F.contents files.old }
     ensures faults { NoneFell (F.faults files.old) (F.faults files.new) }
 {
@@ -71,7 +58,7 @@ pub(crate) fn read_particles<F: Files>(
     files: &mut F,
     asked: &Asked<'_>,
 ) -> Result<Particles, Stop>
-    ensures read { IsParticlesEnd (files_read F.contents F.faults files.old files.new) (shown asked.now) result }
+    ensures read { IsParticlesEnd (files_read F.contents F.faults files.old files.new) (shown_asked asked.now) result }
     ensures contents { F.contents files.new ≡ F.contents files.old }
     ensures faults { NoneFell (F.faults files.old) (F.faults files.new) }
 {

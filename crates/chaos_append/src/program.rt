@@ -1,9 +1,9 @@
-ghost use Rattle.std.specs.Prelude.{◌≡◌, ◌≤◌, Some, MatchResult, map, string_bytes};
+ghost use Rattle.std.specs.Prelude.{◌≡◌, ◌≤◌, Some, map, string_bytes};
 ghost use Rattle.bsp_mail.specs.Mails.{IsFresh};
 ghost use Rattle.fd_outside.specs.Causes.{NoneFell};
-ghost use Rattle.fd_edge.specs.Endings.{IsWritten, leaves};
+ghost use Rattle.fd_edge.specs.Endings.{leaves};
 ghost use Rattle.fd_edge.specs.Readings.{files_read};
-ghost use Rattle.chaos_append.specs.Asked.{asked_to_append, shown};
+ghost use Rattle.chaos_append.specs.Asked.{asked_to_append, shown_asked};
 ghost use Rattle.chaos_append.specs.Outcomes.{IsAnswered, IsCompleted, RanRight};
 
 use crate::asked::{Asked, asked_by};
@@ -11,27 +11,13 @@ use crate::particles::read_particles;
 use crate::running::run_append;
 use append_node::AppendJob;
 use bsp_mail::Mail;
-use fd_edge::{end, end_stop};
+use fd_edge::{end, end_run, end_stop};
 use fd_outside::{Files, Gate, Sink};
-use fd_words::{Bytes, Memory};
 use std::alloc::Global;
 use std::sync::Wait;
 use std::thread::Threads;
 
 const USAGE: &[u8] = b"usage: chaosappend BINS STEPS COUNT NODES BINFILE VALUEFILE\n";
-
-/// Writes the lines of a run; 70 where memory was wanting for it.
-fn end_run<S: Sink>(out: &mut S, run: Result<Bytes, Memory>) -> u8
-    ensures ends { MatchResult run (λ text. IsWritten 0 text result (S.faults out.old) (S.faults out.new) (S.written out.old)
-        (S.written out.new))
-        (λ memory. (result ≡ 70) × (S.written out.new ≡ S.written out.old)) }
-    ensures later { S.faults out.old ≤ S.faults out.new }
-{
-    match run {
-        Ok(text) => end(out, 0, text.as_slice()),
-        Err(Memory) => 70,
-    }
-}
 
 /// Reads the particles that are asked for, moves them and writes the lines.
 fn run_asked<R: Threads + Wait + Sync, F: Files, S: Sink, G: Gate>(
@@ -48,7 +34,7 @@ fn run_asked<R: Threads + Wait + Sync, F: Files, S: Sink, G: Gate>(
     requires count { (1 ≤ asked.now.count) × (asked.now.count ≤ 1048576) }
     requires nodes { (1 ≤ asked.now.nodes) × (asked.now.nodes ≤ 16) }
     requires fresh { IsFresh mail.old.queues mail.old.seats.items }
-    ensures answer { IsAnswered (Some (shown asked.now))
+    ensures answer { IsAnswered (Some (shown_asked asked.now))
         (files_read F.contents F.faults files.old files.new) result
         (leaves S.faults S.written out.old mail.old) (leaves S.faults S.written out.new mail.new) }
     ensures queues { mail.new.queues ≡ mail.old.queues }

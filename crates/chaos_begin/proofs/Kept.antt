@@ -12,7 +12,7 @@ use Rattle.inspect_uses.specs.Accepted.{AreOwners}
 use Rattle.chaos_records.proofs.Kept.{inspections_are_known, records_are_exact}
 use Rattle.chaos_records.specs.Keeping.{Keeps, differs, record_in}
 use Rattle.plan_run.specs.Held.{Held, KeepsLatest, KeepsLoop}
-use Rattle.plan_run.specs.StandLaws.{zip_weaker}
+use Rattle.fd_program.specs.AmongLaws.{zip_weaker}
 use Rattle.plan_run.specs.declared.kept.Kept.{Kept}
 use Rattle.fd_program.specs.Layouts.{Scene, loop_at, owners_at}
 use Rattle.fd_program.specs.Past.{inspects_at, latest_of, record_at}

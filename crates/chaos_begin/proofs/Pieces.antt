@@ -7,7 +7,7 @@ use Rattle.std.proofs.lemmas.Bool.Decides.{nat_tests}
 use Rattle.std.proofs.lemmas.List.Elements.{All-from_recursion}
 use Rattle.chaos_deref.specs.Asking.{IsElement}
 use Rattle.fd_program.specs.LoopCases.{both_parts}
-use Rattle.chaos_begin.specs.Begins.{is_element}
+use Rattle.chaos_begin.specs.Begins.{is_within_extent}
 use Rattle.std.specs.List.{AllByRecursion, list_all, range_with_len}
 
 abbrev pub given_if : {B : Type 0} → Bool → B → List B
@@ -51,32 +51,32 @@ picked_few {B} p f a (suc n) = by (p a) (picked_few p f (a + 1) n)
 at_most : (a b : ℤ) → int_le a b ≡ true → a ≤ℤ b
 at_most a b h = omega (arith, ints, h)
 
-each_within : (extent : ℕ) (xs : List ℤ) → list_all (is_element extent) xs ≡ true → AllByRecursion (IsElement extent) xs
+each_within : (extent : ℕ) (xs : List ℤ) → list_all (is_within_extent extent) xs ≡ true → AllByRecursion (IsElement extent) xs
 each_within extent [] h = tt
 each_within extent (x ∷ xs) h =
-    let both = both_parts (is_element extent x) (list_all (is_element extent) xs) h in
+    let both = both_parts (is_within_extent extent x) (list_all (is_within_extent extent) xs) h in
     let here = both_parts (int_le (pos 1) x) (int_le x (pos extent)) both.0 in
     ((at_most (pos 1) x here.0, at_most x (pos extent) here.1), each_within extent xs both.1)
 
-pub all_within : (extent : ℕ) (xs : List ℤ) → list_all (is_element extent) xs ≡ true → All (IsElement extent) xs
+pub all_within : (extent : ℕ) (xs : List ℤ) → list_all (is_within_extent extent) xs ≡ true → All (IsElement extent) xs
 all_within extent xs h = All-from_recursion (IsElement extent) xs (each_within extent xs h)
 
-element_within : (extent g : ℕ) → 1 ≤ g → g ≤ extent → is_element extent (pos g) ≡ true
+element_within : (extent g : ℕ) → 1 ≤ g → g ≤ extent → is_within_extent extent (pos g) ≡ true
 element_within extent g least most = grind (arith, ints, nat_tests, least, most)
 
 -- numbers from a on, up to the extent
 pub range_within : (extent : ℕ) (keep : ℕ → Bool) (a n : ℕ) → 1 ≤ a → a + n ≤ extent + 1
-    → list_all (is_element extent) (map pos (filter keep (range_with_len a n))) ≡ true
+    → list_all (is_within_extent extent) (map pos (filter keep (range_with_len a n))) ≡ true
 range_within extent keep a zero least most = refl
 range_within extent keep a (suc n) least most =
     by (keep a) (range_within extent keep (a + 1) n (omega (arith, least)) (omega (arith, most)))
     (element_within extent a least (omega (arith, most)))
   where
-    by : (b : Bool) → list_all (is_element extent) (map pos (filter keep (range_with_len (a + 1) n))) ≡ true
-        → is_element extent (pos a) ≡ true
-        → list_all (is_element extent)
+    by : (b : Bool) → list_all (is_within_extent extent) (map pos (filter keep (range_with_len (a + 1) n))) ≡ true
+        → is_within_extent extent (pos a) ≡ true
+        → list_all (is_within_extent extent)
         (map pos (if b then a ∷ filter keep (range_with_len (a + 1) n) else filter keep (range_with_len (a + 1) n))) ≡ true
-    by true rest first = ap (λ b. b && list_all (is_element extent) (map pos (filter keep (range_with_len (a + 1) n)))) first ∙ rest
+    by true rest first = ap (λ b. b && list_all (is_within_extent extent) (map pos (filter keep (range_with_len (a + 1) n)))) first ∙ rest
     by false rest first = rest
 
 -- ---- options

@@ -37,8 +37,9 @@ use Rattle.fd_program.specs.declared.array.LayoutName.{LayoutName}
 use Rattle.fd_program.specs.declared.checked.Checked.{Checked}
 use Rattle.fd_program.specs.declared.trace.Step.{Step}
 use Rattle.fd_program.specs.declared.trace.Step.TheVariants.{Distribute}
-use Rattle.chaos_begin.specs.Begins.{HasMapHere, IsBegun, IsBetween, IsByMap, IsByShape, IsFitMove, IsMoveIn, IsMoveOf, IsPlain, IsShareOf}
-use Rattle.chaos_begin.specs.Begins.{IsSound, has_share, is_element, lists_in}
+use Rattle.chaos_begin.specs.Begins.{HasMapHere, IsBegun, IsBetween, IsByMap, IsByShape, IsFitMove, IsMoveIn, IsMoveOf, IsFitBegun}
+use Rattle.chaos_begin.specs.Begins.{IsShareOf}
+use Rattle.chaos_begin.specs.Begins.{IsSoundBetween, has_share, is_within_extent, lists_in}
 use Rattle.chaos_begin.specs.declared.begun.Begun.{Begun}
 use Rattle.chaos_begin.specs.declared.begun.Begun.TheVariants as begun
 use Rattle.chaos_begin.proofs.Pieces.{range_within, some_weaker}
@@ -113,7 +114,8 @@ last_natural : (z : ℤ) (extent limit : ℕ) → pos 0 ≤ℤ z → (pos extent
 last_natural (pos n) extent limit h last = omega (arith, ints, last)
 last_natural (negsuc n) extent limit h last = absurd (omega (arith, ints, h))
 
-map_held : (s : Scene) (past : List Step) (v : Held) (b : Between) (d : ℕ) (share : Share) (array : ℕ) → IsSound b → IsBetween s past v b
+map_held : (s : Scene) (past : List Step) (v : Held) (b : Between) (d : ℕ) (share : Share) (array : ℕ) → IsSoundBetween b
+    → IsBetween s past v b
     → IsStepIn s.checked (Distribute d (Map array)) → IsHere b d share → HasMapHere b share array s (owners_at s past) (store_at s past)
 map_held s past v b d share array sound between step h =
     let c = s.checked in
@@ -144,7 +146,7 @@ map_held s past v b d share array sound between step h =
           ∙ ap (λ p. part_of c.arrays owners store p array) (sym h.me);
     }
 
-pub map_moves : (s : Scene) (past : List Step) (v : Held) (b : Between) (d : ℕ) (share : Share) (array : ℕ) (m : Moving) → IsSound b
+pub map_moves : (s : Scene) (past : List Step) (v : Held) (b : Between) (d : ℕ) (share : Share) (array : ℕ) (m : Moving) → IsSoundBetween b
     → IsBetween s past v b
     → IsStepIn s.checked (Distribute d (Map array)) → IsHere b d share → IsByMap b share array m → IsMoveIn s past b.me d (Map array) m
 map_moves s past v b d share array m sound between step h by = record {
@@ -169,11 +171,11 @@ share_there s past v b d between less =
     let size : length owners ≡ l.extent = run_keeps_extents s past d between.run less ∙ extent_found s.checked.layouts d l found.1 in
     let mine : list_at b.elements.now d ≡ map pos (elements_on owners b.me) = ap (λ (l : List (List ℤ)). list_at l d)
     (sym between.elements) ∙ told.mine d in
-    ap (λ (c : Checked). option_map_or (λ (l : LayoutName). list_all (is_element l.extent) (list_at b.elements.now d))
+    ap (λ (c : Checked). option_map_or (λ (l : LayoutName). list_all (is_within_extent l.extent) (list_at b.elements.now d))
     (slice_get c.layouts d) false) (sym between.checked)
-    ∙ ap (λ (o : Option LayoutName). option_map_or (λ (l : LayoutName). list_all (is_element l.extent) (list_at b.elements.now d)) o
+    ∙ ap (λ (o : Option LayoutName). option_map_or (λ (l : LayoutName). list_all (is_within_extent l.extent) (list_at b.elements.now d)) o
     false) found.1
-    ∙ ap (list_all (is_element l.extent)) mine
+    ∙ ap (list_all (is_within_extent l.extent)) mine
     ∙ range_within l.extent (λ g. owner_in owners g == b.me) 1 (length owners) (omega arith) (omega (arith, size))
 
 pub by_shape_moves : (s : Scene) (past : List Step) (v : Held) (b : Between) (d : ℕ) (share : Share) (shape : Shape) (form : StepForm)
@@ -192,7 +194,7 @@ by_shape_moves s past v b d share shape form o e h between step here =
     shaped (Some m) h some = h
 
 pub by_map_moves : (s : Scene) (past : List Step) (v : Held) (b : Between) (d : ℕ) (share : Share) (array : ℕ) (form : StepForm)
-    (m : Moving) → IsSound b
+    (m : Moving) → IsSoundBetween b
     → form ≡ Map array → IsByMap b share array m → IsBetween s past v b → IsStepIn s.checked (Distribute d form) → IsHere b d share
     → IsMoveIn s past b.me d form m
 by_map_moves s past v b d share array form m sound e h between step here =
@@ -239,9 +241,9 @@ move_plain b d extent form (Some x) (Some m) h moves = record {
 }
 
 pub begun_plain : (b : Between) (o : Option Moving) (x : Option Begun) → x ≡ option_map begun.Move o → IfSome o (IsFitMove b)
-    → IfSome x (IsPlain b)
-begun_plain b o x e h = subst (λ x. IfSome x (IsPlain b)) (sym e) (by o h)
+    → IfSome x (IsFitBegun b)
+begun_plain b o x e h = subst (λ x. IfSome x (IsFitBegun b)) (sym e) (by o h)
   where
-    by : (o : Option Moving) → IfSome o (IsFitMove b) → IfSome (option_map begun.Move o) (IsPlain b)
+    by : (o : Option Moving) → IfSome o (IsFitMove b) → IfSome (option_map begun.Move o) (IsFitBegun b)
     by None h = tt
     by (Some m) h = h

@@ -1,5 +1,6 @@
 -- What a step begins with on a node, in a run.
-use Rattle.std.specs.Prelude.{◌≡◌, ℕ, ◌<◌, ◌≤◌, ℤ, pos, int_le, Bool, true, false, ◌&&◌, List, [], ◌∷◌, length, map, Option, slice_get}
+use Rattle.std.specs.Prelude.{◌≡◌, ℕ, ◌<◌, ◌≤◌, ℤ, pos, int_le, Bool, true, false, ◌&&◌, ◌==◌, List, [], ◌∷◌, length, map, filter, Option}
+use Rattle.std.specs.Prelude.{slice_get, IsSomeAnd}
 use Rattle.std.specs.List.{AllZip, list_all}
 use Rattle.std.specs.Option.{option_map, option_map_or, option_and_then}
 use Rattle.fd_words.specs.Lists.{list_at}
@@ -23,11 +24,13 @@ use Rattle.plan_run.specs.declared.stage.Stage.{Stage}
 use Rattle.plan_run.specs.declared.stage.Stage.TheVariants as stage
 use Rattle.plan_loop.specs.LoopLetters.{executor_phases}
 use Rattle.fd_program.specs.Checks.{IsChecked}
-use Rattle.fd_program.specs.Layouts.{Scene, loop_at, mapped_owners, owners_at, store_at}
+use Rattle.fd_program.specs.Layouts.{Scene, loop_at, owners_by_map, owners_at, store_at}
 use Rattle.fd_program.specs.Past.{inspects_at, is_repeat, latest_of, record_at}
 use Rattle.fd_program.specs.Places.{decomposition_of}
+use Rattle.fd_program.specs.StepLaws.{IsStepIn}
 use Rattle.fd_program.specs.Stores.{array_at}
 use Rattle.fd_program.specs.Trace.{is_empty_turn}
+use Rattle.fd_program.specs.declared.array.ArrayFacts.{ArrayFacts}
 use Rattle.fd_program.specs.declared.array.LayoutName.{LayoutName}
 use Rattle.fd_program.specs.declared.checked.Checked.{Checked}
 use Rattle.fd_program.specs.declared.loop_facts.LoopFacts.{LoopFacts}
@@ -58,7 +61,7 @@ LatestAreKept c past kept = AllZip (HasLatest c past) (below (length c.sites)) k
 -- ---- before a step
 
 -- the program is a checked one, and the node one of at most 16
-pub record IsSound (b : Between) : Type 0 where
+pub record IsSoundBetween (b : Between) : Type 0 where
   pub checked : IsChecked b.checked.now
   pub some_nodes : 1 ≤ b.nodes
   pub few_nodes : b.nodes ≤ 16
@@ -79,12 +82,16 @@ pub record IsBetween (s : Scene) (past : List Step) (v : Held) (b : Between) : T
 -- ---- a share
 
 -- the number is that of an element
-abbrev pub is_element : ℕ → ℤ → Bool
-is_element extent v = int_le (pos 1) v && int_le v (pos extent)
+abbrev pub is_within_extent : ℕ → ℤ → Bool
+is_within_extent extent v = int_le (pos 1) v && int_le v (pos extent)
 
 -- the lists of a decomposition's arrays
 abbrev pub lists_in : Checked → List (List ℤ) → ℕ → List (List ℤ)
 lists_in c lists d = map (λ array. list_at lists array) (arrays_in c d)
+
+-- those of these arrays, of which there are so many
+abbrev pub lists_of : List ArrayFacts → ℕ → List (List ℤ) → ℕ → List (List ℤ)
+lists_of arrays count lists d = map (λ array. list_at lists array) (filter (λ array. decomposition_of arrays array == d) (below count))
 
 -- what is held of a decomposition
 pub record IsShareOf (b : Between) (d extent : ℕ) (share : Share) : Type 0 where
@@ -98,7 +105,7 @@ pub record IsShareOf (b : Between) (d extent : ℕ) (share : Share) : Type 0 whe
 
 -- the decomposition is there, and what is held of it are elements
 abbrev pub has_share : Between → ℕ → Bool
-has_share b d = option_map_or (λ (l : LayoutName). list_all (is_element l.extent) (list_at b.elements.now d))
+has_share b d = option_map_or (λ (l : LayoutName). list_all (is_within_extent l.extent) (list_at b.elements.now d))
     (slice_get b.checked.now.layouts d) false
 
 -- ---- a move
@@ -121,7 +128,7 @@ pub record IsByMap (b : Between) (share : Share) (array : ℕ) (m : Moving) : Ty
   pub form : m.form ≡ Map array
   pub stages : left_in m.stage ≡ moving_stages (Map array)
   pub moving : (s : Scene) (owners : List (List ℕ)) (store : List (List ℤ)) → HasShare share s owners store
-      → HasMapHere b share array s owners store → IsMoving m s owners store (mapped_owners s.nodes (list_at store array))
+      → HasMapHere b share array s owners store → IsMoving m s owners store (owners_by_map s.nodes (list_at store array))
 
 -- the move of this share to this form, before its first phase
 pub record IsMoveOf (share : Share) (form : StepForm) (m : Moving) : Type 0 where
@@ -136,6 +143,12 @@ pub record IsMoveIn (s : Scene) (past : List Step) (p d : ℕ) (form : StepForm)
   pub given : m.form ≡ form
   pub stages : left_in m.stage ≡ moving_stages form
   pub moving : IsMoving m s (owners_at s past) (store_at s past) (owners_after s past d form)
+
+-- that of a decomposition to a form, whatever the run
+abbrev pub BeginsMoveTo : Between → ℕ → StepForm → Option Moving → Type 0
+BeginsMoveTo b d form o =
+    (s : Scene) (past : List Step) (v : Held) → IsBetween s past v b → IsStepIn s.checked (Distribute d form)
+    → IsSomeAnd o (IsMoveIn s past b.me d form)
 
 -- ---- what a step begins with
 
@@ -194,8 +207,8 @@ pub record IsFit (b : Between) (f : LoopFacts) : Type 0 where
   pub layouts : length f.layouts ≡ length b.checked.now.layouts
   pub nodes : f.nodes ≡ b.nodes
 
-abbrev pub IsPlain : Between → Begun → Type 0
-IsPlain b (begun.Print array) = Unit {0}
-IsPlain b (begun.Move m) = IsFitMove b m
-IsPlain b (begun.Inspect f) = IsFit b f
-IsPlain b begun.Execute = Unit {0}
+abbrev pub IsFitBegun : Between → Begun → Type 0
+IsFitBegun b (begun.Print array) = Unit {0}
+IsFitBegun b (begun.Move m) = IsFitMove b m
+IsFitBegun b (begun.Inspect f) = IsFit b f
+IsFitBegun b begun.Execute = Unit {0}

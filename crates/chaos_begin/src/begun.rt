@@ -8,11 +8,9 @@ ghost use Rattle.fd_program.specs.Layouts.{Scene};
 ghost use Rattle.fd_program.specs.Trace.{is_empty_turn};
 ghost use Rattle.fd_program.specs.declared.trace.Step.{Step};
 ghost use Rattle.fd_program.specs.declared.trace.Step.TheVariants.{Distribute, Forall};
-ghost use Rattle.chaos_begin.specs.Begins.{IsBegun, IsBetween, IsLoopAt, IsPlain, IsSound};
+ghost use Rattle.chaos_begin.specs.Begins.{IsBegun, IsBetween, IsLoopAt, IsFitBegun, IsSoundBetween};
 
 use crate::Between;
-use crate::loops::{inspects, loop_facts};
-use crate::moves::move_to;
 use chaos_dist::StepForm;
 use chaos_moving::Moving;
 use fd_program::{LoopFacts, LoopTurn, Step};
@@ -38,26 +36,6 @@ fn move_begun(moving: Option<Moving>) -> Option<Begun>
     }
 }
 
-fn distribute(
-    alloc: Global,
-    between: &Between,
-    d: u32,
-    form: StepForm,
-) -> Result<Option<Begun>, Memory>
-    requires { IsSound between.now }
-    ensures begun { IfOk result (λ o. (s : Scene) (past : List Step) (v : Held) → IsBetween s past v between.now
-        → IsStepIn s.checked (Distribute d form)
-        → MatchOption o (stages_of s.checked s.nodes s.rule past (Distribute d form) ≡ [])
-        (IsBegun s past (Distribute d form) between.now.me)) }
-    ensures plain { IfOk result (λ o. IfSome o (IsPlain between.now)) }
-{
-    if between.records.is_repeat(d, form) {
-        return Ok(None);
-    }
-    let moving = move_to(alloc, between, d, form)?;
-    Ok(move_begun(moving))
-}
-
 /// Whether the range is empty.
 fn is_empty(turn: &LoopTurn) -> bool
     ensures { result ≡ is_empty_turn turn.now }
@@ -65,68 +43,80 @@ fn is_empty(turn: &LoopTurn) -> bool
     turn.high < turn.low
 }
 
-fn execute(
-    alloc: Global,
-    between: &Between,
-    site: u32,
-    turn: &LoopTurn,
-) -> Result<Option<Begun>, Memory>
-    requires { IsSound between.now }
-    ensures begun { IfOk result (λ o. (s : Scene) (past : List Step) (v : Held) → IsBetween s past v between.now
-        → IsStepIn s.checked (Forall site turn.now)
-        → MatchOption o (stages_of s.checked s.nodes s.rule past (Forall site turn.now) ≡ [])
-        (IsBegun s past (Forall site turn.now) between.now.me)) }
-    ensures plain { IfOk result (λ o. IfSome o (IsPlain between.now)) }
-{
-    if between.checked.sites.len() <= site as usize {
-        return Ok(None);
+impl<'a> Between<'a> {
+    fn distribute(&self, alloc: Global, d: u32, form: StepForm) -> Result<Option<Begun>, Memory>
+        requires { IsSoundBetween self.now }
+        ensures begun { IfOk result (λ o. (s : Scene) (past : List Step) (v : Held) → IsBetween s past v self.now
+            → IsStepIn s.checked (Distribute d form)
+            → MatchOption o (stages_of s.checked s.nodes s.rule past (Distribute d form) ≡ [])
+            (IsBegun s past (Distribute d form) self.now.me)) }
+        ensures plain { IfOk result (λ o. IfSome o (IsFitBegun self.now)) }
+    {
+        if self.records.is_repeat(d, form) {
+            return Ok(None);
+        }
+        let moving = self.move_to(alloc, d, form)?;
+        Ok(move_begun(moving))
     }
-    if is_empty(turn) {
-        return Ok(None);
-    }
-    let does = inspects(alloc, between, site, turn)?;
-    loop_begun(alloc, between, site, turn, does)
-}
 
-/// An execution of a FORALL, which inspects or doesn't.
-fn loop_begun(
-    alloc: Global,
-    between: &Between,
-    site: u32,
-    turn: &LoopTurn,
-    does: bool,
-) -> Result<Option<Begun>, Memory>
-    requires sound { IsSound between.now }
-    requires site { site < length between.now.checked.now.sites }
-    requires range { turn.now.low ≤ℤ turn.now.high }
-    ensures begun { IfOk result (λ o. (s : Scene) (past : List Step) (v : Held) → IsBetween s past v between.now
-        → IsLoopAt s past site turn.now does
-        → IsSomeAnd o (IsBegun s past (Forall site turn.now) between.now.me)) }
-    ensures plain { IfOk result (λ o. IfSome o (IsPlain between.now)) }
-{
-    if does {
-        let facts = loop_facts(alloc, between, site, turn)?;
-        Ok(Some(Begun::Inspect(facts)))
-    } else {
-        Ok(Some(Begun::Execute))
+    fn execute(&self, alloc: Global, site: u32, turn: &LoopTurn) -> Result<Option<Begun>, Memory>
+        requires { IsSoundBetween self.now }
+        ensures begun { IfOk result (λ o. (s : Scene) (past : List Step) (v : Held) → IsBetween s past v self.now
+            → IsStepIn s.checked (Forall site turn.now)
+            → MatchOption o (stages_of s.checked s.nodes s.rule past (Forall site turn.now) ≡ [])
+            (IsBegun s past (Forall site turn.now) self.now.me)) }
+        ensures plain { IfOk result (λ o. IfSome o (IsFitBegun self.now)) }
+    {
+        if self.checked.sites.len() <= site as usize {
+            return Ok(None);
+        }
+        if is_empty(turn) {
+            return Ok(None);
+        }
+        let does = self.inspects(alloc, site, turn)?;
+        self.loop_begun(alloc, site, turn, does)
+    }
+
+    /// An execution of a FORALL, which inspects or doesn't.
+    fn loop_begun(
+        &self,
+        alloc: Global,
+        site: u32,
+        turn: &LoopTurn,
+        does: bool,
+    ) -> Result<Option<Begun>, Memory>
+        requires sound { IsSoundBetween self.now }
+        requires site { site < length self.now.checked.now.sites }
+        requires range { turn.now.low ≤ℤ turn.now.high }
+        ensures begun { IfOk result (λ o. (s : Scene) (past : List Step) (v : Held) → IsBetween s past v self.now
+            → IsLoopAt s past site turn.now does
+            → IsSomeAnd o (IsBegun s past (Forall site turn.now) self.now.me)) }
+        ensures plain { IfOk result (λ o. IfSome o (IsFitBegun self.now)) }
+    {
+        if does {
+            let facts = self.loop_facts(alloc, site, turn)?;
+            Ok(Some(Begun::Inspect(facts)))
+        } else {
+            Ok(Some(Begun::Execute))
+        }
     }
 }
 
 /// What a step begins with on a node; none where it has no phases, as a repeat of a form and a FORALL
 /// with an empty range. Linear in what is held of the decomposition, or in the program.
 pub fn begin(alloc: Global, between: &Between, step: &Step) -> Result<Option<Begun>, Memory>
-    requires { IsSound between.now }
+    requires { IsSoundBetween between.now }
     ensures begun { IfOk result (λ o. (s : Scene) (past : List Step) (v : Held) → IsBetween s past v between.now
         → IsStepIn s.checked step.now
         → MatchOption o (stages_of s.checked s.nodes s.rule past step.now ≡ []) (IsBegun s past step.now between.now.me)) }
-    ensures plain { IfOk result (λ o. IfSome o (IsPlain between.now)) }
+    ensures plain { IfOk result (λ o. IfSome o (IsFitBegun between.now)) }
 {
     match step {
         Step::Distribute {
             decomposition,
             form,
-        } => distribute(alloc, between, *decomposition, *form),
+        } => between.distribute(alloc, *decomposition, *form),
         Step::Print { array } => Ok(Some(Begun::Print(*array))),
-        Step::Forall { site, turn } => execute(alloc, between, *site, turn),
+        Step::Forall { site, turn } => between.execute(alloc, *site, turn),
     }
 }

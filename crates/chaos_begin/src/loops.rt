@@ -2,7 +2,7 @@ ghost use Rattle.std.specs.Prelude.{◌≡◌, ◌<◌, ◌≤ℤ◌, length, If
 ghost use Rattle.std.specs.Option.{option_copied};
 ghost use Rattle.chaos_facts.specs.Facts.{facts_in};
 ghost use Rattle.chaos_records.specs.Keeping.{differs, record_in};
-ghost use Rattle.chaos_begin.specs.Begins.{IsFit, IsSound, latest_in};
+ghost use Rattle.chaos_begin.specs.Begins.{IsFit, IsSoundBetween, latest_in};
 
 use crate::Between;
 use chaos_facts::{facts_are_known, facts_of};
@@ -25,46 +25,41 @@ fn latest(kept: &[Option<Kept>], site: u32) -> Option<&LoopRecord>
     }
 }
 
-/// Whether an execution of a FORALL has to inspect.
-pub fn inspects(
-    alloc: Global,
-    between: &Between,
-    site: u32,
-    turn: &LoopTurn,
-) -> Result<bool, Memory>
-    requires sound { IsSound between.now }
-    requires site { site < length between.now.checked.now.sites }
-    ensures { IfOk result (λ is. is ≡ differs (record_in between.now.records.now between.now.checked.now site turn.now)
-        (latest_in between.now.kept.now site)) }
-{
-    let now = between
-        .records
-        .record_of(alloc, between.checked, site, turn)?;
-    Ok(must_inspect(&now, latest(between.kept, site)))
-}
+impl<'a> Between<'a> {
+    /// Whether an execution of a FORALL has to inspect.
+    pub(crate) fn inspects(&self, alloc: Global, site: u32, turn: &LoopTurn) -> Result<bool, Memory>
+        requires sound { IsSoundBetween self.now }
+        requires site { site < length self.now.checked.now.sites }
+        ensures { IfOk result (λ is. is ≡ differs (record_in self.now.records.now self.now.checked.now site turn.now)
+            (latest_in self.now.kept.now site)) }
+    {
+        let now = self.records.record_of(alloc, self.checked, site, turn)?;
+        Ok(must_inspect(&now, latest(self.kept, site)))
+    }
 
-/// The facts of an execution of a FORALL.
-pub fn loop_facts(
-    alloc: Global,
-    between: &Between,
-    site: u32,
-    turn: &LoopTurn,
-) -> Result<LoopFacts, Memory>
-    requires sound { IsSound between.now }
-    requires site { site < length between.now.checked.now.sites }
-    requires range { turn.now.low ≤ℤ turn.now.high }
-    ensures facts { IfOk result (λ f. f ≡ facts_in between.now.checked.now between.now.nodes between.now.rule between.now.records.now site
-        turn.now) }
-    ensures fit { IfOk result (IsFit between.now) }
-{
-    facts_are_known();
-    facts_of(
-        alloc,
-        between.checked,
-        between.nodes,
-        between.rule,
-        between.records,
-        site,
-        turn,
-    )
+    /// The facts of an execution of a FORALL.
+    pub(crate) fn loop_facts(
+        &self,
+        alloc: Global,
+        site: u32,
+        turn: &LoopTurn,
+    ) -> Result<LoopFacts, Memory>
+        requires sound { IsSoundBetween self.now }
+        requires site { site < length self.now.checked.now.sites }
+        requires range { turn.now.low ≤ℤ turn.now.high }
+        ensures facts { IfOk result (λ f. f ≡ facts_in self.now.checked.now self.now.nodes self.now.rule self.now.records.now site
+            turn.now) }
+        ensures fit { IfOk result (IsFit self.now) }
+    {
+        facts_are_known();
+        facts_of(
+            alloc,
+            self.checked,
+            self.nodes,
+            self.rule,
+            self.records,
+            site,
+            turn,
+        )
+    }
 }

@@ -1,11 +1,11 @@
 -- Lists as bags, where order doesn't count, and items dealt out by number.
-use Rattle.std.specs.Prelude.{◌≡◌, ℕ, zero, suc, ◌+◌, ◌≤◌, ◌<◌, ◌==◌, ℤ, Bool, true, false, cond, List, [], ◌∷◌, ◌++◌, count_by}
+use Rattle.std.specs.Prelude.{◌≡◌, ℕ, zero, suc, ◌+◌, ◌≤◌, ◌<◌, ◌==◌, ℤ, Bool, cond, List, [], ◌∷◌, ◌++◌, count_by}
 use Rattle.std.specs.List.{AllByRecursion}
 use Rattle.std.proofs.Common.{ap, sym, ◌∙◌, arith, refl, inl, inr}
 use Rattle.std.proofs.lemmas.Bool.{cases_lt}
-use Rattle.std.proofs.lemmas.Bool.Decides.{nat_tests}
 use Rattle.chaos_dist.specs.Buckets.{bucket, buckets}
 use Rattle.list_laws.specs.Counts.{first_counted, count_by-append}
+use Rattle.list_laws.specs.Tests.{other_number, same_number}
 
 -- of both lists as many pass each test
 abbrev pub SameBag : {X : Type 0} → List X → List X → Type 0
@@ -17,15 +17,6 @@ SameBag {X} xs ys = (test : X → Bool) → count_by test xs ≡ count_by test y
 abbrev pub AreDealt : {X : Type 0} → (X → ℕ) → ℕ → List X → Type 0
 AreDealt key n xs = AllByRecursion (λ x. key x < n) xs
 
-not_above : (k p : ℕ) → p < k → (k == p) ≡ false
-not_above k p h = grind (arith, nat_tests)
-
-not_below : (k p : ℕ) → k < p → (k == p) ≡ false
-not_below k p h = grind (arith, nat_tests)
-
-itself : (k : ℕ) → (k == k) ≡ true
-itself k = grind (arith, nat_tests)
-
 module _ {X : Type 0} (key : X → ℕ) (test : X → Bool) where
   empty : (a n : ℕ) → buckets key a n [] ≡ []
   empty a zero = refl
@@ -35,7 +26,8 @@ module _ {X : Type 0} (key : X → ℕ) (test : X → Bool) where
   passed : (x : X) (xs : List X) (a n : ℕ) → key x < a → buckets key a n (x ∷ xs) ≡ buckets key a n xs
   passed x xs a zero low = refl
   passed x xs a (suc n) low =
-      ap (λ b. cond b (x ∷ bucket key xs a) (bucket key xs a) ++ buckets key (a + 1) n (x ∷ xs)) (not_below (key x) a low)
+      ap (λ b. cond b (x ∷ bucket key xs a) (bucket key xs a) ++ buckets key (a + 1) n (x ∷ xs))
+      (other_number (key x) a (λ e. omega (arith, low, e)))
       ∙ ap (λ l. bucket key xs a ++ l) (passed x xs (a + 1) n (omega (arith, low)))
 
   -- and one that is in one of them
@@ -48,12 +40,12 @@ module _ {X : Type 0} (key : X → ℕ) (test : X → Bool) where
       let rest = count_by-append test here (buckets key (a + 1) n xs) in
       elim (cases_lt a (key x)) [
         | inl above ↦
-            ap first (not_above (key x) a above)
+            ap first (other_number (key x) a (λ e. omega (arith, above, e)))
             ∙ count_by-append test here (buckets key (a + 1) n (x ∷ xs))
             ∙ omega (arith, rest, one_more x xs (a + 1) n (omega (arith, above)) (omega (arith, high)))
         | inr under ↦
             let same : key x ≡ a = omega (arith, low, under) in
-            ap first (ap (λ k. k == a) same ∙ itself a)
+            ap first (ap (λ k. k == a) same ∙ same_number a)
             ∙ first_counted test x (here ++ buckets key (a + 1) n (x ∷ xs))
             ∙ ap (λ l. cond (test x) 1 0 + count_by test (here ++ l)) (passed x xs (a + 1) n (omega (arith, same)))
       ]

@@ -1,11 +1,11 @@
 -- What a node makes of what it has and took, in a plan.
-use Rattle.std.specs.Prelude.{◌≡◌, ◌≢◌, ◌⊎◌, ℕ, zero, suc, ◌+◌, ◌-◌, ◌==◌, ◌≤◌, ◌<◌, true, false, cond, not, ℤ, if◌then◌else◌, List, []}
+use Rattle.std.specs.Prelude.{◌≡◌, ◌≢◌, ◌⊎◌, ℕ, zero, suc, ◌+◌, ◌-◌, ◌==◌, ◌≤◌, ◌<◌, cond, not, ℤ, if◌then◌else◌, List, []}
 use Rattle.std.specs.Prelude.{◌∷◌, Option, Some, None, map, filter, flat_map, nat_lt, slice_get}
 use Rattle.std.specs.List.{range_with_len}
 use Rattle.std.proofs.Common.{ap, sym, ◌∙◌, arith, inl, inr}
 use Rattle.std.proofs.lemmas.Bool.{cases_eq, cases_lt, le-ltb, lt-ltb}
-use Rattle.std.proofs.lemmas.Bool.Decides.{nat_tests}
 use Rattle.chaos_letter.specs.declared.letter.Letter.{Letter}
+use Rattle.list_laws.specs.Tests.{other_number, same_number}
 use Rattle.chaos_dist.specs.Counting.{below}
 use Rattle.chaos_bins.specs.Plan.{flat, pairs_in}
 use Rattle.chaos_bins.specs.PlanLaws.{pairs_in-flat}
@@ -54,12 +54,6 @@ further : (me a q j : ℕ) → IsPlaceFrom me a q (suc j) → a + 1 ≤ q
 further me a q j (inl p) = omega (arith, p.1)
 further me a q j (inr p) = omega (arith, p.2)
 
-is_me : (a me : ℕ) → a ≡ me → (a == me) ≡ true
-is_me a me e = grind (arith, nat_tests)
-
-is_other : (a me : ℕ) → a ≢ me → (a == me) ≡ false
-is_other a me e = grind (arith, nat_tests)
-
 abbrev pub others_from : ℕ → ℕ → ℕ → List ℕ
 others_from me a k = filter (λ i. not (i == me)) (range_with_len a k)
 
@@ -78,10 +72,10 @@ one_taken f me a (suc k) q j l h apart at =
     elim (cases_eq a me) [
       | inl e ↦
           let more : a + 1 ≤ q = omega (arith, l, e, apart) in
-          ap (λ b. slice_get (map f (cond (not b) (a ∷ rest) rest)) j) (is_me a me e)
+          ap (λ b. slice_get (map f (cond (not b) (a ∷ rest) rest)) j) (ap (λ k. k == me) e ∙ same_number me)
           ∙ one_taken f me (a + 1) k q j more high apart (past_me me a q j e l at)
       | inr e ↦
-          ap (λ b. slice_get (map f (cond (not b) (a ∷ rest) rest)) j) (is_other a me e)
+          ap (λ b. slice_get (map f (cond (not b) (a ∷ rest) rest)) j) (other_number a me e)
           ∙ front_or_rest f me a k q j e at (λ i more place. one_taken f me (a + 1) k q i more high apart place)
     ]
 
@@ -106,8 +100,8 @@ part_is : (f : ℕ → Letter) (me n : ℕ) (own : List ℤ) (numbers : ℕ → 
 part_is f me n own numbers same here q low =
     let got = map f (others_from me 0 n) in
     elim (cases_eq q me) [
-      | inl e ↦ ap (λ b. cond b own (told me got q)) (is_me q me e) ∙ here ∙ ap numbers (sym e)
-      | inr e ↦ ap (λ b. cond b own (told me got q)) (is_other q me e) ∙ told_is f me n q low e ∙ same q
+      | inl e ↦ ap (λ b. cond b own (told me got q)) (ap (λ k. k == me) e ∙ same_number me) ∙ here ∙ ap numbers (sym e)
+      | inr e ↦ ap (λ b. cond b own (told me got q)) (other_number q me e) ∙ told_is f me n q low e ∙ same q
     ]
 
 -- all pairs that a node has, where it has its own rows and took the others' rows

@@ -9,4 +9,6 @@ pub mod Plan
 pub mod PlanLaws
 pub mod Appended
 pub mod Coming
+pub mod Rows
+pub mod Dealing
 pub mod Worked

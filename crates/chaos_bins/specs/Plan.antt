@@ -102,11 +102,11 @@ way_in (Appending t) = ToAll
 way_in Printing = ToFirst
 way_in Ended = ToFirst
 
-abbrev pub letter_in : AppendPlan → Stage → ℕ → ℕ → Letter
-letter_in plan (Sizing t) p q = sizes_letter t (rows_at plan t p q)
-letter_in plan (Appending t) p q = append_letter t (rows_at plan t p q)
-letter_in plan Printing p q = print_letter plan.steps (print_rows plan p)
-letter_in plan Ended p q = print_letter plan.steps (print_rows plan p)
+abbrev pub letter_due : AppendPlan → Stage → ℕ → ℕ → Letter
+letter_due plan (Sizing t) p q = sizes_letter t (rows_at plan t p q)
+letter_due plan (Appending t) p q = append_letter t (rows_at plan t p q)
+letter_due plan Printing p q = print_letter plan.steps (print_rows plan p)
+letter_due plan Ended p q = print_letter plan.steps (print_rows plan p)
 
 abbrev pub wanted_in : AppendPlan → Stage → ℕ → ℕ → Wanted
 wanted_in plan (Sizing t) p q = sizes_wanted t
@@ -115,7 +115,7 @@ wanted_in plan Printing p q = print_wanted plan.steps
 wanted_in plan Ended p q = print_wanted plan.steps
 
 abbrev pub round_in : AppendPlan → Stage → Round
-round_in plan stage = record { letter = letter_in plan stage; sent = sends (way_in stage); wanted = wanted_in plan stage }
+round_in plan stage = record { letter = letter_due plan stage; sent = sends (way_in stage); wanted = wanted_in plan stage }
 
 abbrev pub round_at : AppendPlan → ℕ → Round
 round_at plan phase = round_in plan (stage_at plan.steps phase)

@@ -14,7 +14,7 @@ use Rattle.chaos_bins.specs.Bags.{SameBag}
 use Rattle.list_laws.specs.Counts.{first_counted}
 use Rattle.chaos_bins.specs.Ascending.{pairs_are_sorted}
 use Rattle.chaos_bins.specs.Bins.{bin_at, holder, value}
-use Rattle.chaos_bins.specs.Plan.{AppendPlan, IsAppendPlan, append_rows, flat, held_by, letter_in, pairs_in, phases_of, print_rows}
+use Rattle.chaos_bins.specs.Plan.{AppendPlan, IsAppendPlan, append_rows, flat, held_by, letter_due, pairs_in, phases_of, print_rows}
 use Rattle.chaos_bins.specs.Plan.{print_wanted, round_at, round_in, rows_at, stage_after, stage_at, wanted_in, way_in}
 use Rattle.chaos_bins.specs.declared.stage.Stage.{Stage}
 use Rattle.chaos_bins.specs.declared.stage.Stage.TheVariants.{Appending, Ended, Printing, Sizing}
@@ -33,19 +33,19 @@ is_last t steps e = grind (arith, nat_tests)
 not_last : (t steps : ℕ) → t ≤ steps → (t == steps) ≡ false → t + 1 ≤ steps
 not_last t steps l e = grind (arith, nat_tests)
 
-place_after : (steps phase : ℕ) (stage : Stage) → IsPlace steps phase stage → IsPlace steps (suc phase) (stage_after steps stage)
-place_after steps phase (Sizing t) h = (omega (arith, h.0), h.1)
-place_after steps phase (Appending t) h = by (t == steps) refl
+is_place_after : (steps phase : ℕ) (stage : Stage) → IsPlace steps phase stage → IsPlace steps (suc phase) (stage_after steps stage)
+is_place_after steps phase (Sizing t) h = (omega (arith, h.0), h.1)
+is_place_after steps phase (Appending t) h = by (t == steps) refl
   where
     by : (b : Bool) → (t == steps) ≡ b → IsPlace steps (suc phase) (cond b Printing (Sizing (t + 1)))
     by true e = omega (arith, h.0, is_last t steps e)
     by false e = (omega (arith, h.0), not_last t steps h.1 e)
-place_after steps phase Printing h = omega (arith, h)
-place_after steps phase Ended h = omega (arith, h)
+is_place_after steps phase Printing h = omega (arith, h)
+is_place_after steps phase Ended h = omega (arith, h)
 
 pub placed : (steps phase : ℕ) → IsPlace steps phase (stage_at steps phase)
 placed steps zero = (omega arith, omega arith)
-placed steps (suc phase) = place_after steps phase (stage_at steps phase) (placed steps phase)
+placed steps (suc phase) = is_place_after steps phase (stage_at steps phase) (placed steps phase)
 
 same_last : (t : ℕ) → (t == t) ≡ true
 same_last t = grind (arith, nat_tests)
@@ -110,7 +110,7 @@ few plan is p =
       most = omega (arith, long, print_rows_few plan p, is.few_particles);
     }
 
-fits_at : (plan : AppendPlan) → IsAppendPlan plan → (stage : Stage) (p q : ℕ) → Fits (wanted_in plan stage p q) (letter_in plan stage p q)
+fits_at : (plan : AppendPlan) → IsAppendPlan plan → (stage : Stage) (p q : ℕ) → Fits (wanted_in plan stage p q) (letter_due plan stage p q)
 fits_at plan is (Sizing t) p q =
     record { kind = refl; execution = refl; site = refl; count = record { groups = (1, refl); least = omega arith; most = omega arith } }
 fits_at plan is (Appending t) p q =

@@ -9,8 +9,8 @@ use Rattle.chaos_bins.specs.Bags.{SameBag, AreDealt, bag_dealt}
 use Rattle.list_laws.specs.Counts.{count_by-same, count_by-map, count_by-filter, count_by-append}
 
 -- the list at a place, empty from the end on
-abbrev pub list_at : {X : Type 0} → List (List X) → ℕ → List X
-list_at lists at = unwrap_or (slice_get lists at) []
+abbrev pub list_in : {X : Type 0} → List (List X) → ℕ → List X
+list_in lists at = unwrap_or (slice_get lists at) []
 
 -- ---- lists of lists
 
@@ -22,7 +22,7 @@ map-agree : {X : Type 0} (f g : ℕ → List X) (qs : List ℕ) → ((q : ℕ) �
 map-agree f g [] h = refl
 map-agree f g (q ∷ qs) h = ap (λ l. l ∷ map f qs) (h q) ∙ ap (λ l. g q ∷ l) (map-agree f g qs h)
 
-at_from : {X : Type 0} (f : ℕ → List X) (a n p : ℕ) → p < n → list_at (map f (range_with_len a n)) p ≡ f (a + p)
+at_from : {X : Type 0} (f : ℕ → List X) (a n p : ℕ) → p < n → list_in (map f (range_with_len a n)) p ≡ f (a + p)
 at_from f a zero p low = absurd (omega (arith, low))
 at_from f a (suc n) zero low = let e : a ≡ a + 0 = omega arith in ap f e
 at_from f a (suc n) (suc p) low =
@@ -86,7 +86,7 @@ module _ {X : Type 0} (n : ℕ) (items : List ℕ) (first : ℕ → X) (begin : 
 
   -- what goes from p to q in round t
   abbrev pub rows_in : ℕ → ℕ → ℕ → List X
-  rows_in t p q = for_node t q (list_at (lists_before t) p)
+  rows_in t p q = for_node t q (list_in (lists_before t) p)
 
   -- the same as a bag: the items that p has before the round and q owns behind it
   abbrev pub moving_in : ℕ → ℕ → ℕ → List X
@@ -140,21 +140,21 @@ module _ {X : Type 0} (n : ℕ) (items : List ℕ) (first : ℕ → X) (begin : 
       ∙ are_held dealt t p kept
       ∙ sym (count_by-moved (move t) (λ x. owner x == q) test (standing t p))
 
-  stands : (t p : ℕ) → p < n → list_at (lists_before t) p ≡ standing t p
+  stands : (t p : ℕ) → p < n → list_in (lists_before t) p ≡ standing t p
   stands t p low =
       let none : 0 + p ≡ p = omega arith in
-      ap (λ l. list_at l p) (all_standing t) ∙ at_from (standing t) 0 n p low ∙ ap (standing t) none
+      ap (λ l. list_in l p) (all_standing t) ∙ at_from (standing t) 0 n p low ∙ ap (standing t) none
 
   -- before round 0 a node has the items that it begins with
-  pub first_stands : (p : ℕ) → p < n → list_at (lists_before 0) p ≡ map first (filter (λ i. begin i == p) items)
+  pub first_stands : (p : ℕ) → p < n → list_in (lists_before 0) p ≡ map first (filter (λ i. begin i == p) items)
   first_stands p low = stands 0 p low
 
   -- what a node has before a round is, as a bag, the items that it holds
-  pub held_stand : ((t : ℕ) → AreDealt (node_before t) n items) → (t p : ℕ) → p < n → SameBag (held t p) (list_at (lists_before t) p)
+  pub held_stand : ((t : ℕ) → AreDealt (node_before t) n items) → (t p : ℕ) → p < n → SameBag (held t p) (list_in (lists_before t) p)
   held_stand dealt t p low = subst (λ l. SameBag (held t p) l) (sym (stands t p low)) (are_held dealt t p)
 
   -- and what it has before the next is what came to it in the round, from each node in turn
-  pub rows_come_in : (t p : ℕ) → p < n → list_at (lists_before (suc t)) p ≡ flat_map (λ q. rows_in t q p) (below n)
+  pub rows_come_in : (t p : ℕ) → p < n → list_in (lists_before (suc t)) p ≡ flat_map (λ q. rows_in t q p) (below n)
   rows_come_in t p low =
       let none : 0 + p ≡ p = omega arith in
       at_from (λ r. flat_map (for_node t r) (lists_before t)) 0 n p low

@@ -31,9 +31,9 @@ rem_of_rem x v n some =
     ∙ ap pos (mod-add-mod a.1 n b.1)
     ∙ sym (int_rem_euclid_is (x +ℤ v) (pos n) n (a.0 + b.0) (a.1 + b.1) some refl right)
 
-one_more : (t : ℕ) (v : ℤ) → pos (suc t) *ℤ v ≡ pos t *ℤ v +ℤ v
-one_more t (pos a) = omega (arith, ints)
-one_more t (negsuc a) = omega (arith, ints)
+one_more_step : (t : ℕ) (v : ℤ) → pos (suc t) *ℤ v ≡ pos t *ℤ v +ℤ v
+one_more_step t (pos a) = omega (arith, ints)
+one_more_step t (negsuc a) = omega (arith, ints)
 
 in_place : (bins a : ℕ) → a < bins → int_rem_euclid (pos a) (pos bins) ≡ pos a
 in_place bins a low = ap pos (mod-eq_of_lt low)
@@ -54,7 +54,7 @@ steps_lead bins v a (suc t) low =
     let x = pos (a + 1) -ℤ pos 1 +ℤ pos t *ℤ v in
     let before : bin_after bins v (pos (a + 1)) t ≡ int_rem_euclid x (pos bins) +ℤ pos 1 = steps_lead bins v a t low in
     let back : int_rem_euclid x (pos bins) +ℤ pos 1 -ℤ pos 1 +ℤ v ≡ int_rem_euclid x (pos bins) +ℤ v = omega (arith, ints) in
-    let more : x +ℤ v ≡ pos (a + 1) -ℤ pos 1 +ℤ pos (suc t) *ℤ v = omega (arith, ints, one_more t v) in
+    let more : x +ℤ v ≡ pos (a + 1) -ℤ pos 1 +ℤ pos (suc t) *ℤ v = omega (arith, ints, one_more_step t v) in
     ap (step_from bins v) before
     ∙ ap (λ z. int_rem_euclid z (pos bins) +ℤ pos 1) back
     ∙ ap (λ z. z +ℤ pos 1) (rem_of_rem x v bins (omega (arith, low)))

@@ -21,8 +21,8 @@ most = pos (2 ^ 63 - 1)
 abbrev pub lowest : ℤ
 lowest = negsuc (2 ^ 63 - 1)
 
-abbrev pub five : Particles
-five = particles_of (1 ∷ 1 ∷ 2 ∷ 3 ∷ 3 ∷ []) (pos 5 ∷ minus_one ∷ pos 5 ∷ pos 0 ∷ pos 5 ∷ [])
+abbrev pub five_in_bins : Particles
+five_in_bins = particles_of (1 ∷ 1 ∷ 2 ∷ 3 ∷ 3 ∷ []) (pos 5 ∷ minus_one ∷ pos 5 ∷ pos 0 ∷ pos 5 ∷ [])
 
 abbrev pub far : Particles
 far = particles_of (1 ∷ 2 ∷ 3 ∷ 1 ∷ []) (most ∷ lowest ∷ minus_one ∷ pos 0 ∷ [])
@@ -38,4 +38,4 @@ mixed =
 
 -- five particles on two nodes, one step
 abbrev pub five_plan : AppendPlan
-five_plan = record { bins = 3; steps = 1; nodes = 2; particles = five }
+five_plan = record { bins = 3; steps = 1; nodes = 2; particles = five_in_bins }

@@ -4,23 +4,23 @@ ghost use Rattle.bsp_desk.specs.Uniform.{letters_of};
 ghost use Rattle.chaos_bins.specs.Bins.{lines_of, moving};
 ghost use Rattle.chaos_bins.specs.Moving.{rows, standing};
 ghost use Rattle.chaos_bins.specs.Plan.{append_letter, phases_of, print_letter, round_at, sizes_letter};
-ghost use Rattle.chaos_bins.specs.Worked.{bins_after, equals, far, five, five_plan, lowest, minus_one, mixed, most, particles_of};
+ghost use Rattle.chaos_bins.specs.Worked.{bins_after, equals, far, five_in_bins, five_plan, lowest, minus_one, mixed, most, particles_of};
 
 /// Five particles in three bins, after one step and before it.
 pub fn five_particles()
-    ensures one { bins_after 3 1 five ≡ (pos 5 ∷ []) ∷ (pos 5 ∷ []) ∷ (minus_one ∷ pos 0 ∷ pos 5 ∷ []) ∷ [] }
-    ensures none { bins_after 3 0 five ≡ (minus_one ∷ pos 5 ∷ []) ∷ (pos 5 ∷ []) ∷ (pos 0 ∷ pos 5 ∷ []) ∷ [] }
-    ensures lines { lines_of 3 1 five
+    ensures one { bins_after 3 1 five_in_bins ≡ (pos 5 ∷ []) ∷ (pos 5 ∷ []) ∷ (minus_one ∷ pos 0 ∷ pos 5 ∷ []) ∷ [] }
+    ensures none { bins_after 3 0 five_in_bins ≡ (minus_one ∷ pos 5 ∷ []) ∷ (pos 5 ∷ []) ∷ (pos 0 ∷ pos 5 ∷ []) ∷ [] }
+    ensures lines { lines_of 3 1 five_in_bins
         ≡ codes "bin 1: 5" ++ 10 ∷ codes "bin 2: 5" ++ 10 ∷ codes "bin 3: -1" ++ codes " 0 5" ++ 10 ∷ [] }
 {}
 
 /// The same on two nodes: each stands on its bin's owner from the beginning on, and three change it in the step.
 pub fn five_on_two_nodes()
-    ensures stay { rows 3 2 five 0 0 1 ≡ [] }
-    ensures out { rows 3 2 five 1 0 1 ≡ (pos 3, pos 5) ∷ (pos 3, minus_one) ∷ [] }
-    ensures back { rows 3 2 five 1 1 0 ≡ (pos 2, pos 5) ∷ [] }
-    ensures moving { moving 3 2 five 1 0 1 ≡ (pos 3, pos 5) ∷ (pos 3, minus_one) ∷ [] }
-    ensures after { standing 3 2 five 2
+    ensures stay { rows 3 2 five_in_bins 0 0 1 ≡ [] }
+    ensures out { rows 3 2 five_in_bins 1 0 1 ≡ (pos 3, pos 5) ∷ (pos 3, minus_one) ∷ [] }
+    ensures back { rows 3 2 five_in_bins 1 1 0 ≡ (pos 2, pos 5) ∷ [] }
+    ensures moving { moving 3 2 five_in_bins 1 0 1 ≡ (pos 3, pos 5) ∷ (pos 3, minus_one) ∷ [] }
+    ensures after { standing 3 2 five_in_bins 2
         ≡ ((pos 1, pos 5) ∷ (pos 2, pos 5) ∷ []) ∷ ((pos 3, pos 5) ∷ (pos 3, minus_one) ∷ (pos 3, pos 0) ∷ []) ∷ [] }
 {}
 

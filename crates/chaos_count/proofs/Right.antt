@@ -21,7 +21,7 @@ use Rattle.fd_program.specs.declared.reference.Reference.{Reference}
 use Rattle.fd_program.specs.declared.trace.LoopTurn.{LoopTurn}
 use Rattle.fd_program.specs.declared.trace.Step.{Step}
 use Rattle.fd_program.specs.declared.trace.Step.TheVariants.{Distribute, Print, Forall}
-use Rattle.chaos_records.specs.Keeping.{Keeps, first_setting, setting_in, setting_at, moved, written, record_in, differs}
+use Rattle.chaos_records.specs.Keeping.{Keeps, first_setting, setting_in, setting_at, moved, written_at, record_in, differs}
 use Rattle.chaos_records.specs.KeepingLaws.{NewKeeps, PrintKeeps, WritesKeep, MoveKeeps, RecordsAreExact, InspectionsAreKnown}
 use Rattle.chaos_records.specs.KeepingLaws.{VersionsAreFew}
 use Rattle.chaos_records.specs.Numbering.{same_map, get_below, set_below, replicate_map}

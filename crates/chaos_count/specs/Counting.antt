@@ -22,7 +22,7 @@ use Rattle.fd_program.specs.declared.trace.Step.TheVariants.{Distribute, Print, 
 use Rattle.fd_program.specs.Met.{is_map}
 use Rattle.plan_loop.specs.declared.loop_phase.Asking.{Asking}
 use Rattle.plan_loop.specs.declared.loop_phase.Asking.TheVariants.{Indexes, Homes, References}
-use Rattle.chaos_records.specs.Keeping.{no_records, setting_in, is_repeated, moved, written, record_in, differs}
+use Rattle.chaos_records.specs.Keeping.{no_records, setting_in, is_repeated, moved, written_at, record_in, differs}
 use Rattle.chaos_records.specs.declared.records.Records.{Records}
 use Rattle.chaos_count.specs.declared.known.Known.{Known}
 
@@ -102,12 +102,12 @@ abbrev pub known_after_move : Known → ℕ → StepForm → Known
 known_after_move k d form = record { records = moved_in k.records d form; latest = k.latest }
 
 -- the execution with this number changes the array of a target
-abbrev pub noted : ℕ → Records → Reference → Records
-noted execution r x = if is_target x.role then written execution r x.array else r
+abbrev pub noted_reference : ℕ → Records → Reference → Records
+noted_reference execution r x = if is_target x.role then written_at execution r x.array else r
 
 abbrev pub known_after_loop : ℕ → Known → Checked → ℕ → LoopTurn → Known
 known_after_loop execution k c site turn = record {
-  records = fold (noted execution) k.records (site_at c.sites site).references;
+  records = fold (noted_reference execution) k.records (site_at c.sites site).references;
   latest = slice_set k.latest site (Some (record_in k.records c site turn));
 }
 

@@ -10,15 +10,15 @@ use Rattle.fd_program.specs.declared.reference.Reference.{Reference}
 use Rattle.fd_program.specs.declared.trace.LoopTurn.{LoopTurn}
 use Rattle.fd_program.specs.declared.trace.Step.{Step}
 use Rattle.fd_program.specs.declared.trace.Step.TheVariants.{Forall}
-use Rattle.chaos_records.specs.Keeping.{Keeps, written}
+use Rattle.chaos_records.specs.Keeping.{Keeps, written_at}
 use Rattle.chaos_records.specs.KeepingLaws.{WritesKeep}
 use Rattle.chaos_records.specs.declared.records.Records.{Records}
-use Rattle.chaos_count.specs.Counting.{noted}
+use Rattle.chaos_count.specs.Counting.{noted_reference}
 
 abbrev pub TargetsAreNoted : Type 0
 TargetsAreNoted =
     (c : Checked) (past : List Step) (site : ℕ) (turn : LoopTurn) (r : Records) → Keeps c past r → is_empty_turn turn ≡ false
-    → Keeps c (Forall site turn ∷ past) (fold (noted (length past)) r (site_at c.sites site).references)
+    → Keeps c (Forall site turn ∷ past) (fold (noted_reference (length past)) r (site_at c.sites site).references)
 
 -- ---- the targets of a FORALL
 
@@ -26,15 +26,15 @@ abbrev targets_in : List Reference → List ℕ
 targets_in [] = []
 targets_in (x ∷ xs) = if is_target x.role then x.array ∷ targets_in xs else targets_in xs
 
-fold_targets : (execution : ℕ) (r : Records) (xs : List Reference) → fold (noted execution) r xs ≡ fold (written execution) r
+fold_targets : (execution : ℕ) (r : Records) (xs : List Reference) → fold (noted_reference execution) r xs ≡ fold (written_at execution) r
     (targets_in xs)
 fold_targets execution r [] = refl
 fold_targets execution r (x ∷ xs) = by (is_target x.role) (λ r. fold_targets execution r xs)
   where
-    by : (b : Bool) → ((r : Records) → fold (noted execution) r xs ≡ fold (written execution) r (targets_in xs))
-        → fold (noted execution) (if b then written execution r x.array else r) xs ≡ fold (written execution) r
+    by : (b : Bool) → ((r : Records) → fold (noted_reference execution) r xs ≡ fold (written_at execution) r (targets_in xs))
+        → fold (noted_reference execution) (if b then written_at execution r x.array else r) xs ≡ fold (written_at execution) r
         (if b then x.array ∷ targets_in xs else targets_in xs)
-    by true rest = rest (written execution r x.array)
+    by true rest = rest (written_at execution r x.array)
     by false rest = rest r
 
 targets_same : (array : ℕ) (xs : List Reference)

@@ -1,7 +1,7 @@
 ghost use Rattle.std.specs.Prelude.{◌≡◌, ◌<◌, ◌≤◌, ◌^◌, fold, replicate, slice_set, if◌then◌else◌, Some, None, IfOk};
 ghost use Rattle.fd_words.specs.Roles.{is_target as is_target_of};
-ghost use Rattle.chaos_records.specs.Keeping.{differs, written};
-ghost use Rattle.chaos_count.specs.Counting.{latest_at, moved_in, moving_count, noted};
+ghost use Rattle.chaos_records.specs.Keeping.{differs, written_at};
+ghost use Rattle.chaos_count.specs.Counting.{latest_at, moved_in, moving_count, noted_reference};
 
 use chaos_dist::StepForm;
 use chaos_records::{Records, must_inspect};
@@ -37,7 +37,7 @@ pub(crate) fn note_move(records: &mut Records, decomposition: u32, form: StepFor
 /// Notes that an execution of a FORALL with these references changes its targets.
 pub fn note_writes(records: &mut Records, references: &[Reference], execution: u64)
     requires { execution < 2 ^ 32 }
-    ensures { records.new ≡ fold (noted execution) records.old references.now }
+    ensures { records.new ≡ fold (noted_reference execution) records.old references.now }
 {
     for reference in references {
         note_target(records, reference.role, reference.array, execution);
@@ -46,7 +46,7 @@ pub fn note_writes(records: &mut Records, references: &[Reference], execution: u
 
 fn note_target(records: &mut Records, role: Role, array: u32, execution: u64)
     requires { execution < 2 ^ 32 }
-    ensures { records.new ≡ (if is_target_of role then written execution records.old array else records.old) }
+    ensures { records.new ≡ (if is_target_of role then written_at execution records.old array else records.old) }
 {
     if role.is_target() && u64::from(array) < records.arrays() {
         records.note_write(array, execution);

@@ -1,5 +1,6 @@
 pub mod Bisection
 pub mod Keys
+pub mod Choices
 pub mod Search
 pub mod KeyLaws
 pub mod Told

@@ -5,8 +5,8 @@ use Rattle.std.specs.Int.{int_min, int_max}
 use Rattle.std.specs.List.{range_with_len, AllByRecursion}
 use Rattle.std.proofs.Common.{ap, sym, ◌∙◌, arith, refl, inl, inr}
 use Rattle.std.proofs.lemmas.Bool.{cases_lt}
-use Rattle.std.proofs.lemmas.Bool.Decides.{nat_tests}
 use Rattle.std.proofs.lemmas.Int.{clamps, ints}
+use Rattle.list_laws.specs.Tests.{other_number, same_number}
 use Rattle.chaos_dist.specs.Counting.{below}
 use Rattle.chaos_cut.specs.Bisection.{coordinate, least_of, greatest_of}
 
@@ -20,15 +20,6 @@ owned_by owner elements node = filter (λ g. owner g == node) elements
 -- the nodes below n but one, ascending
 abbrev pub others : ℕ → ℕ → List ℕ
 others n me = filter (λ q. not (q == me)) (below n)
-
-not_below : (k p : ℕ) → k < p → (k == p) ≡ false
-not_below k p h = grind (arith, nat_tests)
-
-not_above : (k p : ℕ) → p < k → (k == p) ≡ false
-not_above k p h = grind (arith, nat_tests)
-
-itself : (k : ℕ) → (k == k) ≡ true
-itself k = grind (arith, nat_tests)
 
 -- ---- any operation that doesn't mind order
 
@@ -63,7 +54,8 @@ module _ {M : Type 0} (op : M → M → M) (unit : M)
       → total (map (more_at m k y) (range_with_len a n)) ≡ total (map m (range_with_len a n))
   untouched m k y a zero under = refl
   untouched m k y a (suc n) under =
-      ap (λ b. op (cond b (op y (m a)) (m a)) (total (map (more_at m k y) (range_with_len (a + 1) n)))) (not_below k a under)
+      ap (λ b. op (cond b (op y (m a)) (m a)) (total (map (more_at m k y) (range_with_len (a + 1) n))))
+      (other_number k a (λ e. omega (arith, under, e)))
       ∙ ap (op (m a)) (untouched m k y (a + 1) n (omega (arith, under)))
 
   added : (m : ℕ → M) (k : ℕ) (y : M) (a n : ℕ) → a ≤ k → k < a + n
@@ -73,12 +65,12 @@ module _ {M : Type 0} (op : M → M → M) (unit : M)
       let rest = total (map (more_at m k y) (range_with_len (a + 1) n)) in
       elim (cases_lt a k) [
         | inl above ↦
-            ap (λ b. op (cond b (op y (m a)) (m a)) rest) (not_above k a above)
+            ap (λ b. op (cond b (op y (m a)) (m a)) rest) (other_number k a (λ e. omega (arith, above, e)))
             ∙ ap (op (m a)) (added m k y (a + 1) n (omega (arith, above)) (omega (arith, high)))
             ∙ swapped (m a) y (total (map m (range_with_len (a + 1) n)))
         | inr under ↦
             let here : k ≡ a = omega (arith, under, low) in
-            ap (λ b. op (cond b (op y (m a)) (m a)) rest) (ap (λ z. z == a) here ∙ itself a)
+            ap (λ b. op (cond b (op y (m a)) (m a)) rest) (ap (λ z. z == a) here ∙ same_number a)
             ∙ ap (op (op y (m a))) (untouched m k y (a + 1) n (omega (arith, here)))
             ∙ assoc y (m a) (total (map m (range_with_len (a + 1) n)))
       ]
@@ -90,7 +82,7 @@ module _ {M : Type 0} (op : M → M → M) (unit : M)
   kept_above : (p a n : ℕ) → p < a → but p a n ≡ range_with_len a n
   kept_above p a zero under = refl
   kept_above p a (suc n) under =
-      ap (λ b. cond (not b) (a ∷ but p (a + 1) n) (but p (a + 1) n)) (not_above a p under)
+      ap (λ b. cond (not b) (a ∷ but p (a + 1) n) (but p (a + 1) n)) (other_number a p (λ e. omega (arith, under, e)))
       ∙ ap (λ l. a ∷ l) (kept_above p (a + 1) n (omega (arith, under)))
 
   -- one of them first
@@ -100,12 +92,12 @@ module _ {M : Type 0} (op : M → M → M) (unit : M)
       let first = λ (b : Bool). op (m p) (total (map m (cond (not b) (a ∷ but p (a + 1) n) (but p (a + 1) n)))) in
       elim (cases_lt a p) [
         | inl above ↦
-            ap first (not_below a p above)
+            ap first (other_number a p (λ e. omega (arith, above, e)))
             ∙ swapped (m p) (m a) (total (map m (but p (a + 1) n)))
             ∙ ap (op (m a)) (one_out m p (a + 1) n (omega (arith, above)) (omega (arith, high)))
         | inr under ↦
             let here : a ≡ p = omega (arith, under, low) in
-            ap first (ap (λ z. z == p) here ∙ itself p)
+            ap first (ap (λ z. z == p) here ∙ same_number p)
             ∙ ap (λ l. op (m p) (total (map m l))) (kept_above p (a + 1) n (omega (arith, here)))
             ∙ ap (λ z. op (m z) (total (map m (range_with_len (a + 1) n)))) (sym here)
       ]
@@ -182,36 +174,25 @@ pub counts_add_up : CountsAddUp
 counts_add_up owner test n me elements less owned =
     told_together (λ (a b : ℕ). a + b) 0 plus_assoc plus_comm refl (λ g. cond (test g) 1 0) owner n me elements less owned
 
--- the least coordinate: the lesser of a node's own and those of the others
-abbrev pub LeastIsTold : Type 0
-LeastIsTold =
+-- what an operation makes of a node's own coordinate of a kind and of those of the others is that of all
+abbrev pub IsTold : (ℤ → ℤ → ℤ) → (List ℤ → List ℕ → ℤ) → Type 0
+IsTold op of =
     (axis : List ℤ) (owner : ℕ → ℕ) (n me : ℕ) (elements : List ℕ) → me < n → AreOwned owner n elements
-    → fold int_min (least_of axis (owned_by owner elements me)) (map (λ q. least_of axis (owned_by owner elements q)) (others n me))
-    ≡ least_of axis elements
+    → fold op (of axis (owned_by owner elements me)) (map (λ q. of axis (owned_by owner elements q)) (others n me)) ≡ of axis elements
 
-min_assoc : (a b c : ℤ) → int_min (int_min a b) c ≡ int_min a (int_min b c)
-min_assoc a b c = omega (arith, ints, clamps)
+-- the least coordinate, and the greatest
+abbrev pub LeastIsTold : Type 0
+LeastIsTold = IsTold int_min least_of
 
-min_comm : (a b : ℤ) → int_min a b ≡ int_min b a
-min_comm a b = omega (arith, ints, clamps)
+abbrev pub GreatestIsTold : Type 0
+GreatestIsTold = IsTold int_max greatest_of
 
 pub least_is_told : LeastIsTold
-least_is_told axis owner n me elements less owned =
-    told_together int_min (pos (2 ^ 63 - 1)) min_assoc min_comm refl (coordinate axis) owner n me elements less owned
-
--- the greatest alike
-abbrev pub GreatestIsTold : Type 0
-GreatestIsTold =
-    (axis : List ℤ) (owner : ℕ → ℕ) (n me : ℕ) (elements : List ℕ) → me < n → AreOwned owner n elements
-    → fold int_max (greatest_of axis (owned_by owner elements me)) (map (λ q. greatest_of axis (owned_by owner elements q)) (others n me))
-    ≡ greatest_of axis elements
-
-max_assoc : (a b c : ℤ) → int_max (int_max a b) c ≡ int_max a (int_max b c)
-max_assoc a b c = omega (arith, ints, clamps)
-
-max_comm : (a b : ℤ) → int_max a b ≡ int_max b a
-max_comm a b = omega (arith, ints, clamps)
+least_is_told axis =
+    told_together int_min (pos (2 ^ 63 - 1)) (λ a b c. omega (arith, ints, clamps)) (λ a b. omega (arith, ints, clamps)) refl
+    (coordinate axis)
 
 pub greatest_is_told : GreatestIsTold
-greatest_is_told axis owner n me elements less owned =
-    told_together int_max (negsuc (2 ^ 63 - 1)) max_assoc max_comm refl (coordinate axis) owner n me elements less owned
+greatest_is_told axis =
+    told_together int_max (negsuc (2 ^ 63 - 1)) (λ a b c. omega (arith, ints, clamps)) (λ a b. omega (arith, ints, clamps)) refl
+    (coordinate axis)

@@ -15,7 +15,8 @@ use Rattle.fd_words.specs.declared.place.Place.{Place}
 use Rattle.chaos_dist.specs.Counting.{below}
 use Rattle.chaos_dist.specs.OwnersLaws.{get_range}
 use Rattle.chaos_table.specs.declared.pages.Pages.{Pages}
-use Rattle.chaos_deref.specs.Asking.{page_for, asks_for, nowhere, place_named, numbers_of, answers_to, owner_read, local_read, place_read}
+use Rattle.chaos_deref.specs.Asking.{page_for, asks_for, nowhere, place_looked_up, numbers_of, answers_to, owner_read, local_read}
+use Rattle.chaos_deref.specs.Asking.{place_read}
 use Rattle.chaos_deref.specs.Asking.{joined_at, joined}
 use Rattle.chaos_deref.specs.Laws.{IsSent, all_answers}
 
@@ -72,8 +73,8 @@ read_first place rest sent =
     ∙ ap (λ z. made place.owner (local_read (Some z))) (sent_local place.local sent.1)
 
 read_answer : (page : Pages) (xs : List ℤ) (r j k : ℕ) (v : ℤ) → j ≡ 2 * r → k ≡ 2 * r + 1 → slice_get xs r ≡ Some v
-    → IsSent (place_named page v)
-    → read_at (answers_to page xs) j k ≡ place_named page v
+    → IsSent (place_looked_up page v)
+    → read_at (answers_to page xs) j k ≡ place_looked_up page v
 read_answer page [] r j k v first second at sent = not_there v at
 read_answer page (x ∷ xs) zero j k v first second at sent =
     let e : j ≡ 0 = omega arith in
@@ -81,7 +82,7 @@ read_answer page (x ∷ xs) zero j k v first second at sent =
     let same : x ≡ v = same_item x v at in
     ap (λ n. read_at (answers_to page (x ∷ xs)) n k) e ∙ ap (read_at (answers_to page (x ∷ xs)) 0) f
     ∙ ap (λ y. read_at (answers_to page (y ∷ xs)) 0 1) same
-    ∙ read_first (place_named page v) (answers_to page xs) sent
+    ∙ read_first (place_looked_up page v) (answers_to page xs) sent
 read_answer page (x ∷ xs) (suc r) j k v first second at sent =
     let e : j ≡ suc (suc (2 * r)) = omega arith in
     let f : k ≡ suc (suc (2 * r + 1)) = omega arith in
@@ -94,11 +95,12 @@ same_number : (m : ℕ) → (m == m) ≡ true
 same_number m = grind (arith, nat_tests)
 
 pub asking-gives_places : (extent nodes : ℕ) (pages : ℕ → Pages) (wanted : List ℤ) → All (λ v. page_for extent nodes v < nodes) wanted
-    → All (λ v. IsSent (place_named (pages (page_for extent nodes v)) v)) wanted
-    → joined extent nodes wanted (all_answers extent nodes pages wanted) ≡ map (λ v. place_named (pages (page_for extent nodes v)) v) wanted
+    → All (λ v. IsSent (place_looked_up (pages (page_for extent nodes v)) v)) wanted
+    → joined extent nodes wanted (all_answers extent nodes pages wanted)
+    ≡ map (λ v. place_looked_up (pages (page_for extent nodes v)) v) wanted
 asking-gives_places extent nodes pages wanted low sent =
     let answers = all_answers extent nodes pages wanted in
-    let place = λ (v : ℤ). place_named (pages (page_for extent nodes v)) v in
+    let place = λ (v : ℤ). place_looked_up (pages (page_for extent nodes v)) v in
     let long : length (joined extent nodes wanted answers) ≡ length wanted =
     length-map-range_with_len (joined_at extent nodes wanted answers) 0 (length wanted) in
     let short : length (map place wanted) ≡ length wanted = length-map wanted place in
@@ -113,8 +115,8 @@ asking-gives_places extent nodes pages wanted low sent =
   where
     one : (extent nodes : ℕ) (pages : ℕ → Pages) (wanted : List ℤ) (i : ℕ) (v : ℤ) → slice_get wanted i ≡ Some v
         → get_or wanted i (pos 0) ≡ v
-        → page_for extent nodes v < nodes → IsSent (place_named (pages (page_for extent nodes v)) v)
-        → joined_at extent nodes wanted (all_answers extent nodes pages wanted) i ≡ place_named (pages (page_for extent nodes v)) v
+        → page_for extent nodes v < nodes → IsSent (place_looked_up (pages (page_for extent nodes v)) v)
+        → joined_at extent nodes wanted (all_answers extent nodes pages wanted) i ≡ place_looked_up (pages (page_for extent nodes v)) v
     one extent nodes pages wanted i v at is low sent =
         let p = page_for extent nodes v in
         let test = λ (y : ℤ). page_for extent nodes y == p in

@@ -13,33 +13,34 @@ use Rattle.chaos_table.specs.declared.pages.Pages.{Pages}
 use Rattle.chaos_table.specs.Pages.{page_given, place_in}
 use Rattle.chaos_table.specs.Laws.{CountsBefore}
 use Rattle.chaos_table.proofs.OfLayout.{counts-of_layout, page-of_layout}
-use Rattle.chaos_deref.specs.Asking.{IsElement, page_for, nowhere, place_named, joined}
+use Rattle.chaos_deref.specs.Asking.{IsElement, page_for, nowhere, place_looked_up, joined}
 use Rattle.chaos_deref.specs.Laws.{IsSent, all_answers, IsSpread, AskingGivesLayout}
 use Rattle.chaos_deref.proofs.Composed.{asking-gives_places}
+
+-- a page is one of the nodes
+pub page_low : (extent nodes g : ℕ) → 1 ≤ nodes → 1 ≤ g → g ≤ extent → page_of extent nodes g < nodes
+page_low extent nodes g some from_one within =
+    let w = divided_up extent nodes in
+    let elements : 1 ≤ extent = omega arith in
+    let width : 1 ≤ w = omega (arith, divided_up-is extent nodes elements some) in
+    let enough : extent ≤ nodes * w = divided_up-enough extent nodes some in
+    let low : g - 1 < nodes * w = omega (arith, enough, from_one, within) in
+    div_below (g - 1) w nodes width low
 
 module _ (nodes : ℕ) (owners : List ℕ) (pairs : ℕ → List (List ℤ)) (counts : List (List ℤ)) (spread : IsSpread nodes owners pairs counts)
   where
     abbrev pages : ℕ → Pages
     pages page = page_given (length owners) nodes page (pairs page) counts
 
-    page_low : (g : ℕ) → 1 ≤ g → g ≤ length owners → page_of (length owners) nodes g < nodes
-    page_low g from_one within =
-        let w = divided_up (length owners) nodes in
-        let elements : 1 ≤ length owners = omega arith in
-        let width : 1 ≤ w = omega (arith, divided_up-is (length owners) nodes elements spread.some) in
-        let enough : length owners ≤ nodes * w = divided_up-enough (length owners) nodes spread.some in
-        let low : g - 1 < nodes * w = omega (arith, enough, from_one, within) in
-        div_below (g - 1) w nodes width low
-
     counts_before : (page : ℕ) → page < nodes → CountsBefore nodes page owners counts
     counts_before page low = λ before less.
         let small : before < nodes = omega arith in
         spread.counted before small ∙ counts-of_layout nodes before owners (pairs before) (spread.covered before small)
 
-    told : (g : ℕ) → 1 ≤ g → g ≤ length owners → place_named (pages (page_of (length owners) nodes g)) (pos g) ≡ place_in owners g
+    told : (g : ℕ) → 1 ≤ g → g ≤ length owners → place_looked_up (pages (page_of (length owners) nodes g)) (pos g) ≡ place_in owners g
     told g from_one within =
         let page = page_of (length owners) nodes g in
-        let low = page_low g from_one within in
+        let low = page_low (length owners) nodes g spread.some from_one within in
         ap (λ o. unwrap_or o nowhere) (page-of_layout nodes page owners (pairs page) counts (spread.covered page low)
         (counts_before page low) g from_one within refl)
 
@@ -54,21 +55,25 @@ module _ (nodes : ℕ) (owners : List ℕ) (pairs : ℕ → List (List ℤ)) (co
         (omega (arith, node, spread.few), omega (arith, local, length-take (g - 1) owners, spread.short, there))
 
     abbrev IsTold : ℤ → Type 0
-    IsTold v = IsSent (place_named (pages (page_for (length owners) nodes v)) v) × (page_for (length owners) nodes v < nodes)
-        × (place_named (pages (page_for (length owners) nodes v)) v ≡ place_in owners (unsigned_abs v))
+    IsTold v = IsSent (place_looked_up (pages (page_for (length owners) nodes v)) v) × (page_for (length owners) nodes v < nodes)
+        × (place_looked_up (pages (page_for (length owners) nodes v)) v ≡ place_in owners (unsigned_abs v))
 
     each : (v : ℤ) → IsElement (length owners) v → IsTold v
     each (pos g) element =
         let from_one : 1 ≤ g = omega (arith, ints, element.0) in
-        let within : g ≤ length owners = omega (arith, ints, element.1) in
-        (subst IsSent (sym (told g from_one within)) (fits g from_one within), page_low g from_one within, told g from_one within)
+        let within : g ≤ length owners = omega (arith, ints, element.1) in (
+          subst IsSent (sym (told g from_one within))
+              (fits g from_one within),
+          page_low (length owners) nodes g spread.some from_one within,
+          told g from_one within,
+        )
     each (negsuc n) element = absurd (omega (arith, ints, element.0))
 
     of_layout : (wanted : List ℤ) → All (IsElement (length owners)) wanted
         → joined (length owners) nodes wanted (all_answers (length owners) nodes pages wanted) ≡ map (λ v. place_in owners (unsigned_abs v))
         wanted
     of_layout wanted elements =
-        let on_page = λ (v : ℤ). place_named (pages (page_for (length owners) nodes v)) v in
+        let on_page = λ (v : ℤ). place_looked_up (pages (page_for (length owners) nodes v)) v in
         let place = λ (v : ℤ). place_in owners (unsigned_abs v) in
         let one : (i : ℕ) (d : ℤ) → i < length wanted → IsTold (get_or wanted i d) = λ i d h. each (get_or wanted i d) (elements i d h) in
         asking-gives_places (length owners) nodes pages wanted (λ i d h. (one i d h).1) (λ i d h. (one i d h).0)

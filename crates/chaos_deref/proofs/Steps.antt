@@ -11,7 +11,7 @@ use Rattle.fd_words.specs.declared.place.Place.{Place}
 use Rattle.chaos_dist.specs.Counting.{below, below-last}
 use Rattle.list_laws.specs.Dealt.{dealt, dealt-more, dealt-own}
 use Rattle.chaos_table.specs.declared.pages.Pages.{Pages}
-use Rattle.chaos_deref.specs.Asking.{page_for, asks_for, place_named, numbers_of, answers_to, place_read, joined_at}
+use Rattle.chaos_deref.specs.Asking.{page_for, asks_for, place_looked_up, numbers_of, answers_to, place_read, joined_at}
 
 -- ---- asks
 
@@ -39,10 +39,10 @@ flat_map-push f (y ∷ xs) x = ap (λ l. f y ++ l) (flat_map-push f xs x) ∙ sy
 
 pub answer_step : (page : Pages) (asked : List ℤ) (i : ℕ) (place : Place) (answers new : List ℤ) → i < length asked
     → answers ≡ answers_to page (take i asked)
-    → place ≡ place_named page (get_or asked i (pos 0)) → new ≡ answers ++ numbers_of place → new ≡ answers_to page (take (i + 1) asked)
+    → place ≡ place_looked_up page (get_or asked i (pos 0)) → new ≡ answers ++ numbers_of place → new ≡ answers_to page (take (i + 1) asked)
 answer_step page asked i place answers new h before at pushed =
-    pushed ∙ ap (λ p. answers ++ numbers_of p) at ∙ ap (λ l. l ++ numbers_of (place_named page (get_or asked i (pos 0)))) before
-    ∙ sym (ap (answers_to page) (take_more asked i (pos 0) h) ∙ flat_map-push (λ v. numbers_of (place_named page v)) (take i asked)
+    pushed ∙ ap (λ p. answers ++ numbers_of p) at ∙ ap (λ l. l ++ numbers_of (place_looked_up page (get_or asked i (pos 0)))) before
+    ∙ sym (ap (answers_to page) (take_more asked i (pos 0) h) ∙ flat_map-push (λ v. numbers_of (place_looked_up page v)) (take i asked)
     (get_or asked i (pos 0)))
 
 -- ---- joined

@@ -28,16 +28,16 @@ abbrev pub nowhere : Place
 nowhere = record { owner = 0; local = 0 }
 
 -- the place of the element that a number names, owner 0 and local address 0 where it isn't on the page
-abbrev pub place_named : Pages → ℤ → Place
-place_named page (pos g) = unwrap_or (look_in page g) nowhere
-place_named page (negsuc g) = nowhere
+abbrev pub place_looked_up : Pages → ℤ → Place
+place_looked_up page (pos g) = unwrap_or (look_in page g) nowhere
+place_looked_up page (negsuc g) = nowhere
 
 abbrev pub numbers_of : Place → List ℤ
 numbers_of place = pos place.owner ∷ cast_signed w64 place.local ∷ []
 
 -- owner and local address of each
 abbrev pub answers_to : Pages → List ℤ → List ℤ
-answers_to page asked = flat_map (λ v. numbers_of (place_named page v)) asked
+answers_to page asked = flat_map (λ v. numbers_of (place_looked_up page v)) asked
 
 -- ---- joined
 

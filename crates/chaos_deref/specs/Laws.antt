@@ -6,7 +6,7 @@ use Rattle.fd_words.specs.declared.place.Place.{Place}
 use Rattle.chaos_table.specs.declared.pages.Pages.{Pages}
 use Rattle.chaos_table.specs.Pages.{owners_on, counts_of, page_given, place_in}
 use Rattle.chaos_table.specs.Laws.{IsCovered}
-use Rattle.chaos_deref.specs.Asking.{IsElement, page_for, asks_for, place_named, answers_to, joined}
+use Rattle.chaos_deref.specs.Asking.{IsElement, page_for, asks_for, place_looked_up, answers_to, joined}
 
 -- a place that a list of numbers can hold
 abbrev pub IsSent : Place → Type 0
@@ -19,8 +19,9 @@ all_answers extent nodes pages wanted = map (λ p. answers_to (pages p) (list_at
 -- it gives each wanted element's place on its page, in the order of asking
 abbrev pub AskingGivesPlaces : Type 0
 AskingGivesPlaces = (extent nodes : ℕ) (pages : ℕ → Pages) (wanted : List ℤ) → All (λ v. page_for extent nodes v < nodes) wanted
-    → All (λ v. IsSent (place_named (pages (page_for extent nodes v)) v)) wanted
-    → joined extent nodes wanted (all_answers extent nodes pages wanted) ≡ map (λ v. place_named (pages (page_for extent nodes v)) v) wanted
+    → All (λ v. IsSent (place_looked_up (pages (page_for extent nodes v)) v)) wanted
+    → joined extent nodes wanted (all_answers extent nodes pages wanted)
+    ≡ map (λ v. place_looked_up (pages (page_for extent nodes v)) v) wanted
 
 -- ---- all pages of a layout
 

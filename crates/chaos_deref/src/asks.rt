@@ -20,20 +20,11 @@ pub fn split_asks(
     requires elements { All (IsElement extent) wanted.now }
     ensures { IfOk result (λ lists. lists ≡ asks_for extent nodes wanted.now) }
 {
-    split(alloc, extent, nodes, wanted.as_slice())
-}
-
-fn split(alloc: Global, extent: u64, nodes: u32, wanted: &[i64]) -> Result<NumberLists, Memory>
-    requires large { extent ≤ 4294967296 }
-    requires some { 1 ≤ nodes }
-    requires few { nodes ≤ 16 }
-    requires elements { All (IsElement extent) wanted.now }
-    ensures { IfOk result (λ lists. lists ≡ asks_for extent nodes wanted.now) }
-{
     let mut lists = NumberLists::empty(alloc, nodes)?;
-    for i in 0..wanted.len() {
-        let page = page_at(extent, nodes, wanted, i);
-        ask(&mut lists, page, wanted, i)?;
+    let all = wanted.as_slice();
+    for i in 0..all.len() {
+        let page = page_at(extent, nodes, all, i);
+        ask(&mut lists, page, all, i)?;
     }
     Ok(lists)
 }

@@ -1,4 +1,4 @@
-ghost use Rattle.std.specs.Prelude.{◌≡◌, ◌≤◌, ◌<◌, All, length, slice_get, IfOk};
+ghost use Rattle.std.specs.Prelude.{◌≡◌, ◌≤◌, ◌<◌, All, IfOk};
 ghost use Rattle.fd_words.specs.Lists.{list_at};
 ghost use Rattle.chaos_deref.specs.Asking.{IsElement, owner_read, local_read, place_read, joined};
 
@@ -21,26 +21,11 @@ pub fn join_answers(
     requires elements { All (IsElement extent) wanted.now }
     ensures { IfOk result (λ places. places ≡ joined extent nodes wanted.now answers.now) }
 {
-    join(alloc, extent, nodes, wanted.as_slice(), answers)
-}
-
-fn join(
-    alloc: Global,
-    extent: u64,
-    nodes: u32,
-    wanted: &[i64],
-    answers: &NumberLists,
-) -> Result<Places, Memory>
-    requires large { extent ≤ 4294967296 }
-    requires some { 1 ≤ nodes }
-    requires few { nodes ≤ 16 }
-    requires elements { All (IsElement extent) wanted.now }
-    ensures { IfOk result (λ places. places ≡ joined extent nodes wanted.now answers.now) }
-{
     let mut taken = [0u64; MOST_NODES];
     let mut places = Places::new(alloc);
-    for i in 0..wanted.len() {
-        let page = page_at(extent, nodes, wanted, i);
+    let all = wanted.as_slice();
+    for i in 0..all.len() {
+        let page = page_at(extent, nodes, all, i);
         let rank = taken[page as usize];
         places.push(place(answers, page, rank))?;
         taken[page as usize] = rank + 1;

@@ -7,7 +7,7 @@ mod asks;
 mod joined;
 mod laws;
 
-pub use answers::answer;
+pub use answers::{answer, append_place, place_of};
 pub use asks::split_asks;
 pub use joined::join_answers;
 pub use laws::asking_laws;

@@ -30,7 +30,7 @@ count_up_to-same p q (suc n) same =
     ap (λ c. c + cond (p (suc n)) 1 0) (count_up_to-same p q n (λ h low high. same h low (omega arith)))
     ∙ ap (λ t. count_up_to q n + cond t 1 0) (same (suc n) (omega arith) (omega arith))
 
-one_at_most : (t : Bool) → cond t 1 0 ≤ 1
+pub one_at_most : (t : Bool) → cond t 1 0 ≤ 1
 one_at_most true = omega arith
 one_at_most false = omega arith
 

@@ -1,5 +1,5 @@
 -- The regular distributions: which node holds an element, and where.
-use Rattle.std.specs.Prelude.{ℕ, ◌+◌, ◌-◌, ◌/◌, ◌%◌, ◌==◌, List, filter, slice_get, unwrap_or}
+use Rattle.std.specs.Prelude.{ℕ, ◌+◌, ◌-◌, ◌*◌, ◌/◌, ◌%◌, ◌<◌, ◌==◌, List, filter, slice_get, unwrap_or}
 use Rattle.chaos_dist.specs.Counting.{count_up_to, up_to}
 use Rattle.chaos_dist.specs.declared.shape.Shape.{Shape}
 use Rattle.chaos_dist.specs.declared.shape.Shape.TheVariants.{Block, Cyclic, BlockCyclic}
@@ -45,3 +45,11 @@ abbrev pub width_of : Shape → ℕ → ℕ → ℕ
 width_of Block extent nodes = divided_up extent nodes
 width_of Cyclic extent nodes = 1
 width_of (BlockCyclic b) extent nodes = b
+
+-- what is computed on the way to the element at a local address is below a bound
+pub record StaysBelow (w n node l top : ℕ) : Type 0 where
+  pub rounds : l / w * n < top
+  pub runs : l / w * n + node < top
+  pub before : (l / w * n + node) * w < top
+  pub element : (l / w * n + node) * w + l % w < top
+  pub from_one : (l / w * n + node) * w + l % w + 1 < top

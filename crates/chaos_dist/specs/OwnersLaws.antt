@@ -45,7 +45,7 @@ count_by-take-owners q (o ∷ owners) (suc g) within =
     less : (g n : ℕ) → suc g ≤ suc n → g ≤ n
     less g n h = omega arith
 
-take_whole : {A : Type 0} (xs : List A) → take (length xs) xs ≡ xs
+pub take_whole : {A : Type 0} (xs : List A) → take (length xs) xs ≡ xs
 take_whole [] = refl
 take_whole (x ∷ xs) = ap (λ l. x ∷ l) (take_whole xs)
 

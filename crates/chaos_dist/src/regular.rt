@@ -1,5 +1,5 @@
-ghost use Rattle.std.specs.Prelude.{◌≡◌, ℕ, ◌+◌, ◌*◌, ◌/◌, ◌%◌, ◌≤◌, ◌<◌};
-ghost use Rattle.chaos_dist.specs.Layout.{owner_of, local_of, length_of, element_of, given_size, width_of};
+ghost use Rattle.std.specs.Prelude.{◌≡◌, ℕ, ◌+◌, ◌*◌, ◌/◌, ◌%◌, ◌^◌, ◌≤◌, ◌<◌};
+ghost use Rattle.chaos_dist.specs.Layout.{owner_of, local_of, length_of, element_of, given_size, width_of, StaysBelow};
 
 use crate::Shape;
 
@@ -71,8 +71,20 @@ impl Regular {
             → local_of self.shape self.extent self.nodes g ≡ local → g ≡ result }
     {
         let width = self.width();
-        (local / width * u64::from(self.nodes) + u64::from(node)) * width + local % width + 1
+        let nodes = u64::from(self.nodes);
+        let at = u64::from(node);
+        self.stays_below(at, local, width, nodes);
+        (local / width * nodes + at) * width + local % width + 1
     }
+
+    /// What is computed on the way to an element's number fits.
+    fn stays_below(self, node: u64, local: u64, width: u64, nodes: u64)
+        requires node { node < self.nodes }
+        requires place { local < length_of self.shape self.extent self.nodes node }
+        requires width { width ≡ width_of self.shape self.extent self.nodes }
+        requires nodes { nodes ≡ self.nodes }
+        ensures { StaysBelow width nodes node local (2 ^ 64) }
+    {}
 
     /// How many elements a node is dealt at a time.
     fn width(self) -> u64

@@ -47,191 +47,79 @@ use Rattle.chaos_entering.specs.contracts.activity.At as At
 use Rattle.chaos_node.specs.contracts.node.Node as Node
 use Rattle.chaos_node.specs.contracts.node.Node.TheInside as Inside
 
-CheckedExpr-field_send : IsSend CheckedExpr.the_field.row
-CheckedExpr-field_send = search (sendable, CheckedExpr-crosses, Boxed-send, Arith-field_send) depth 20
+ruleset words_send = (sendable, Boxed-send, Items-send, Arith-field_send, SourcePlace-field_send, Combine-field_send, Role-field_send)
 
-CheckedExpr-send : IsSend CheckedExpr.the_row
-CheckedExpr-send = search (sendable, CheckedExpr-crosses, Boxed-send, Arith-field_send) depth 20
+ruleset words_sync = (sendable, Boxed-sync, Items-sync, Arith-field_sync, SourcePlace-field_sync, Combine-field_sync, Role-field_sync)
+
+CheckedExpr-field_send : IsSend CheckedExpr.the_field.row
+CheckedExpr-field_send = search (words_send, CheckedExpr-crosses) depth 20
 
 CheckedExpr-field_sync : IsSync CheckedExpr.the_field.row
-CheckedExpr-field_sync = search (sendable, CheckedExpr-crosses, Boxed-sync, Arith-field_sync) depth 20
-
-CheckedExpr-sync : IsSync CheckedExpr.the_row
-CheckedExpr-sync = search (sendable, CheckedExpr-crosses, Boxed-sync, Arith-field_sync) depth 20
+CheckedExpr-field_sync = search (words_sync, CheckedExpr-crosses) depth 20
 
 CheckedScalar-field_send : IsSend CheckedScalar.the_field.row
-CheckedScalar-field_send = search (sendable, CheckedScalar-crosses, Boxed-send, Arith-field_send, SourcePlace-field_send) depth 20
+CheckedScalar-field_send = search (words_send, CheckedScalar-crosses) depth 20
 
 CheckedScalar-send : IsSend CheckedScalar.the_row
-CheckedScalar-send = search (sendable, CheckedScalar-crosses, Boxed-send, Arith-field_send, SourcePlace-field_send) depth 20
+CheckedScalar-send = search (words_send, CheckedScalar-crosses) depth 20
 
 CheckedScalar-field_sync : IsSync CheckedScalar.the_field.row
-CheckedScalar-field_sync = search (sendable, CheckedScalar-crosses, Boxed-sync, Arith-field_sync, SourcePlace-field_sync) depth 20
+CheckedScalar-field_sync = search (words_sync, CheckedScalar-crosses) depth 20
 
 CheckedScalar-sync : IsSync CheckedScalar.the_row
-CheckedScalar-sync = search (sendable, CheckedScalar-crosses, Boxed-sync, Arith-field_sync, SourcePlace-field_sync) depth 20
-
-CheckedBody-field_send : IsSend CheckedBody.the_field.row
-CheckedBody-field_send = search (sendable, Combine-field_send, CheckedExpr-field_send) depth 20
+CheckedScalar-sync = search (words_sync, CheckedScalar-crosses) depth 20
 
 CheckedBody-send : IsSend CheckedBody.the_row
-CheckedBody-send = search (sendable, Combine-field_send, CheckedExpr-field_send) depth 20
-
-CheckedBody-field_sync : IsSync CheckedBody.the_field.row
-CheckedBody-field_sync = search (sendable, Combine-field_sync, CheckedExpr-field_sync) depth 20
+CheckedBody-send = search (words_send, CheckedExpr-field_send) depth 20
 
 CheckedBody-sync : IsSync CheckedBody.the_row
-CheckedBody-sync = search (sendable, Combine-field_sync, CheckedExpr-field_sync) depth 20
-
-CheckedTerm-field_send : IsSend CheckedTerm.the_field.row
-CheckedTerm-field_send = search (sendable, SourcePlace-field_send, CheckedScalar-field_send) depth 20
+CheckedBody-sync = search (words_sync, CheckedExpr-field_sync) depth 20
 
 CheckedTerm-send : IsSend CheckedTerm.the_row
-CheckedTerm-send = search (sendable, SourcePlace-field_send, CheckedScalar-field_send) depth 20
-
-CheckedTerm-field_sync : IsSync CheckedTerm.the_field.row
-CheckedTerm-field_sync = search (sendable, SourcePlace-field_sync, CheckedScalar-field_sync) depth 20
+CheckedTerm-send = search (words_send, CheckedScalar-field_send) depth 20
 
 CheckedTerm-sync : IsSync CheckedTerm.the_row
-CheckedTerm-sync = search (sendable, SourcePlace-field_sync, CheckedScalar-field_sync) depth 20
+CheckedTerm-sync = search (words_sync, CheckedScalar-field_sync) depth 20
 
 CheckedSubscript-field_send : IsSend CheckedSubscript.the_field.row
-CheckedSubscript-field_send = search (sendable, SourcePlace-field_send, CheckedScalar-field_send, CheckedTerm-send, Items-send) depth 20
-
-CheckedSubscript-send : IsSend CheckedSubscript.the_row
-CheckedSubscript-send = search (sendable, SourcePlace-field_send, CheckedScalar-field_send, CheckedTerm-send, Items-send) depth 20
+CheckedSubscript-field_send = search (words_send, CheckedScalar-field_send, CheckedTerm-send) depth 20
 
 CheckedSubscript-field_sync : IsSync CheckedSubscript.the_field.row
-CheckedSubscript-field_sync = search (sendable, SourcePlace-field_sync, CheckedScalar-field_sync, CheckedTerm-sync, Items-sync) depth 20
-
-CheckedSubscript-sync : IsSync CheckedSubscript.the_row
-CheckedSubscript-sync = search (sendable, SourcePlace-field_sync, CheckedScalar-field_sync, CheckedTerm-sync, Items-sync) depth 20
-
-Reference-field_send : IsSend Reference.the_field.row
-Reference-field_send = search (sendable, Role-field_send, CheckedSubscript-field_send) depth 20
+CheckedSubscript-field_sync = search (words_sync, CheckedScalar-field_sync, CheckedTerm-sync) depth 20
 
 Reference-send : IsSend Reference.the_row
-Reference-send = search (sendable, Role-field_send, CheckedSubscript-field_send) depth 20
-
-Reference-field_sync : IsSync Reference.the_field.row
-Reference-field_sync = search (sendable, Role-field_sync, CheckedSubscript-field_sync) depth 20
+Reference-send = search (words_send, CheckedSubscript-field_send) depth 20
 
 Reference-sync : IsSync Reference.the_row
-Reference-sync = search (sendable, Role-field_sync, CheckedSubscript-field_sync) depth 20
+Reference-sync = search (words_sync, CheckedSubscript-field_sync) depth 20
 
 Site-field_send : IsSend Site.the_field.row
-Site-field_send = search (
-  sendable,
-  SourcePlace-field_send,
-  CheckedScalar-send,
-  CheckedScalar-field_send,
-  CheckedBody-send,
-  Reference-send,
-  Items-send,
-) depth 20
-
-Site-send : IsSend Site.the_row
-Site-send = search (
-  sendable,
-  SourcePlace-field_send,
-  CheckedScalar-send,
-  CheckedScalar-field_send,
-  CheckedBody-send,
-  Reference-send,
-  Items-send,
-) depth 20
-
-Site-field_sync : IsSync Site.the_field.row
-Site-field_sync = search (
-  sendable,
-  SourcePlace-field_sync,
-  CheckedScalar-sync,
-  CheckedScalar-field_sync,
-  CheckedBody-sync,
-  Reference-sync,
-  Items-sync,
-) depth 20
+Site-field_send = search (words_send, CheckedScalar-send, CheckedScalar-field_send, CheckedBody-send, Reference-send) depth 20
 
 Site-sync : IsSync Site.the_row
-Site-sync = search (
-  sendable,
-  SourcePlace-field_sync,
-  CheckedScalar-sync,
-  CheckedScalar-field_sync,
-  CheckedBody-sync,
-  Reference-sync,
-  Items-sync,
-) depth 20
+Site-sync = search (words_sync, CheckedScalar-sync, CheckedScalar-field_sync, CheckedBody-sync, Reference-sync) depth 20
 
 LoopFacts-field_send : IsSend LoopFacts.the_field.row
-LoopFacts-field_send = search (
-  sendable,
-  ArrayFacts-send,
-  Site-field_send,
-  LoopTurn-field_send,
-  Layout-send,
-  HomeRule-field_send,
-  Items-send,
-) depth 20
-
-LoopFacts-send : IsSend LoopFacts.the_row
-LoopFacts-send = search (sendable, ArrayFacts-send, Site-field_send, LoopTurn-field_send, Layout-send, HomeRule-field_send, Items-send)
-    depth 20
-
-CheckedStatement-field_sync : IsSync CheckedStatement.the_field.row
-CheckedStatement-field_sync = search (sendable, SourcePlace-field_sync, StepForm-field_sync, CheckedScalar-field_sync) depth 20
+LoopFacts-field_send = search (words_send, ArrayFacts-send, Site-field_send, LoopTurn-field_send, Layout-send, HomeRule-field_send) depth 20
 
 CheckedStatement-sync : IsSync CheckedStatement.the_row
-CheckedStatement-sync = search (sendable, SourcePlace-field_sync, StepForm-field_sync, CheckedScalar-field_sync) depth 20
+CheckedStatement-sync = search (words_sync, StepForm-field_sync, CheckedScalar-field_sync) depth 20
 
 Checked-field_sync : IsSync Checked.the_field.row
-Checked-field_sync = search (
-  sendable,
-  ArrayFacts-sync,
-  LayoutName-sync,
-  Numbers-sync,
-  OutputName-sync,
-  Site-sync,
-  CheckedStatement-sync,
-  Items-sync,
-) depth 20
-
-Checked-sync : IsSync Checked.the_row
-Checked-sync = search (
-  sendable,
-  ArrayFacts-sync,
-  LayoutName-sync,
-  Numbers-sync,
-  OutputName-sync,
-  Site-sync,
-  CheckedStatement-sync,
-  Items-sync,
-) depth 20
-
-Session-field_sync : IsSync Session.the_field.row
-Session-field_sync = search (sendable, Checked-field_sync, Step-sync, HomeRule-field_sync, Items-sync) depth 20
-
-Session-sync : IsSync Session.the_row
-Session-sync = search (sendable, Checked-field_sync, Step-sync, HomeRule-field_sync, Items-sync) depth 20
-
-Inspection-field_send : IsSend Inspection.the_field.row
-Inspection-field_send = search (sendable, LoopFacts-field_send, Numbers-send, Asked-field_send, Spot-send, Stage-field_send, Items-send)
+Checked-field_sync = search (words_sync, ArrayFacts-sync, LayoutName-sync, Numbers-sync, OutputName-sync, Site-sync, CheckedStatement-sync)
     depth 20
 
-Inspection-send : IsSend Inspection.the_row
-Inspection-send = search (sendable, LoopFacts-field_send, Numbers-send, Asked-field_send, Spot-send, Stage-field_send, Items-send) depth 20
+Session-sync : IsSync Session.the_row
+Session-sync = search (words_sync, Checked-field_sync, Step-sync, HomeRule-field_sync) depth 20
+
+Inspection-field_send : IsSend Inspection.the_field.row
+Inspection-field_send = search (words_send, LoopFacts-field_send, Numbers-send, Asked-field_send, Spot-send, Stage-field_send) depth 20
 
 Activity-field_send : IsSend Activity.the_field.row
 Activity-field_send = search (sendable, Moving-field_send, Inspection-field_send, Executing-field_send) depth 20
 
-Activity-send : IsSend Activity.the_row
-Activity-send = search (sendable, Moving-field_send, Inspection-field_send, Executing-field_send) depth 20
-
 At-field_send : IsSend At.the_field.row
-At-field_send = search (sendable, Activity-field_send, Numbers-send, Items-send) depth 20
-
-At-send : IsSend At.the_row
-At-send = search (sendable, Activity-field_send, Numbers-send, Items-send) depth 20
+At-field_send = search (words_send, Activity-field_send, Numbers-send) depth 20
 
 Inside-send : (l : NamedLft) → IsSend (Inside.the_row l)
 Inside-send l = search (

@@ -15,7 +15,7 @@ use Rattle.chaos_entering.specs.Standing.{node_holds}
 use Rattle.chaos_entering.specs.State.{NodeState}
 use Rattle.chaos_holdings.specs.declared.session.Session.{Session}
 use Rattle.plan_run.specs.DueLaws.{rows_have_due_lists, rows_have_moves}
-use Rattle.plan_run.specs.Phases.{due_list, moves_of}
+use Rattle.plan_run.specs.Phases.{due_list, run_moves}
 use Rattle.plan_run.specs.Rows.{RunPlan, node_row}
 use Rattle.fd_program.specs.Runs.{run_of}
 use Rattle.fd_program.specs.Texts.{text_of}
@@ -133,6 +133,6 @@ sent_over s store w sent over same p q lp lq =
 
 pub moves_over : (s : Session) (store : List (List ℤ)) (w : WorldState (View NodeState)) (moved : List ℕ) → IsAdmitted s store
     → Over s store w → moved ≡ w.moved
-    → length moved ≡ moves_of s.checked s.nodes s.rule store
+    → length moved ≡ run_moves s.checked s.nodes s.rule store
 moves_over s store w moved h over same =
     ap length same ∙ over.moves ∙ over.is.all_moves ∙ rows_have_moves (plan_of s store) over.phases h.some over.is.end

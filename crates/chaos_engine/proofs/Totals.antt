@@ -11,7 +11,8 @@ use Rattle.std.proofs.lemmas.List.{length-map, length_push}
 use Rattle.bsp_core.specs.Turns.{AreDone}
 use Rattle.bsp_core.specs.Views.{View}
 use Rattle.chaos_entering.specs.State.{NodeState}
-use Rattle.chaos_engine.specs.Counts.{count_in, first_count, more_count, total_among, total_counts}
+use Rattle.chaos_engine.specs.Counts.{first_count, more_count, total_among, total_counts}
+use Rattle.plan_run.specs.StandLaws.{counted_at}
 
 -- a node's counts at the end
 abbrev pub node_counts : RunPlan → ℕ → List SiteCount
@@ -106,7 +107,7 @@ map_map : {A B C : Type 0} (f : B → C) (g : A → B) (xs : List A) → map f (
 map_map f g [] = refl
 map_map {A} {B} {C} f g (x ∷ xs) = ap (λ (l : List C). f (g x) ∷ l) (map_map f g xs)
 
-count_among : (f : ℕ → SiteCount) (low n k : ℕ) → k < n → count_in (map f (range_with_len low n)) k ≡ f (low + k)
+count_among : (f : ℕ → SiteCount) (low n k : ℕ) → k < n → counted_at (map f (range_with_len low n)) k ≡ f (low + k)
 count_among f low zero k h = absurd (omega arith)
 count_among f low (suc n) zero h = ap f (let e : low ≡ low + 0 = omega arith in e)
 count_among f low (suc n) (suc k) h = count_among f (low + 1) n k (less h) ∙ ap f (let e : low + 1 + k ≡ low + suc k = omega arith in e)
@@ -120,11 +121,11 @@ totals_are plan some =
     let s = scene_in plan in
     let past = completed_of (run_in plan) in
     let sites = length plan.checked.sites in
-    map_same (λ k. total_among (map (λ cs. count_in cs k) (map (node_counts plan) (below plan.nodes))))
+    map_same (λ k. total_among (map (λ cs. counted_at cs k) (map (node_counts plan) (below plan.nodes))))
     (λ k. total_count s.nodes (λ node. count_at s past node k)) 0 sites
     (λ k l m.
-    ap total_among (map_map (λ cs. count_in cs k) (node_counts plan) (below plan.nodes)
-    ∙ map_same (λ p. count_in (node_counts plan p) k) (λ p. count_at s past p k) 0 plan.nodes
+    ap total_among (map_map (λ cs. counted_at cs k) (node_counts plan) (below plan.nodes)
+    ∙ map_same (λ p. counted_at (node_counts plan p) k) (λ p. count_at s past p k) 0 plan.nodes
     (λ p lp mp. count_among (count_at s past p) 0 sites k (let e : k < sites = omega (arith, m) in e)
     ∙ ap (count_at s past p) (let e : 0 + k ≡ k = omega arith in e)))
     ∙ among_all (λ node. count_at s past node k) plan.nodes some)
@@ -133,7 +134,7 @@ totals_are plan some =
 
 -- what a FORALL counts on each of these nodes
 abbrev pub counts_for : ℕ → List (View NodeState) → List SiteCount
-counts_for site nodes = map (λ (v : View NodeState). count_in v.state.end.counts site) nodes
+counts_for site nodes = map (λ (v : View NodeState). counted_at v.state.end.counts site) nodes
 
 take_next : (xs : List SiteCount) (k : ℕ) (x : SiteCount) → slice_get xs k ≡ Some x → take (k + 1) xs ≡ take k xs ++ x ∷ []
 take_next [] k x e = cc
@@ -142,9 +143,9 @@ take_next (y ∷ ys) (suc k) x e = ap (λ n. take n (y ∷ ys)) (let h : suc k +
     ∙ ap (λ (l : List SiteCount). y ∷ l) (take_next ys k x e)
 
 get_map : (site : ℕ) (nodes : List (View NodeState)) (k : ℕ) (v : View NodeState) → slice_get nodes k ≡ Some v
-    → slice_get (counts_for site nodes) k ≡ Some (count_in v.state.end.counts site)
+    → slice_get (counts_for site nodes) k ≡ Some (counted_at v.state.end.counts site)
 get_map site [] k v e = cc
-get_map site (w ∷ nodes) zero v e = let same : w ≡ v = cc in ap (λ (x : View NodeState). Some (count_in x.state.end.counts site)) same
+get_map site (w ∷ nodes) zero v e = let same : w ≡ v = cc in ap (λ (x : View NodeState). Some (counted_at x.state.end.counts site)) same
 get_map site (w ∷ nodes) (suc k) v e = get_map site nodes k v e
 
 fold_push : (c : SiteCount) (xs : List SiteCount) (x : SiteCount) → fold more_count c (xs ++ x ∷ []) ≡ more_count (fold more_count c xs) x
@@ -153,15 +154,15 @@ fold_push c (y ∷ ys) x = fold_push (more_count c y) ys x
 
 pub total_more : (site : ℕ) (nodes : List (View NodeState)) (k : ℕ) (v : View NodeState) (c one next : SiteCount)
     → slice_get nodes k ≡ Some v
-    → c ≡ fold more_count (first_count (counts_for site nodes)) (take k (counts_for site nodes)) → one ≡ count_in v.state.end.counts site
+    → c ≡ fold more_count (first_count (counts_for site nodes)) (take k (counts_for site nodes)) → one ≡ counted_at v.state.end.counts site
     → next ≡ more_count c one
     → next ≡ fold more_count (first_count (counts_for site nodes)) (take (k + 1) (counts_for site nodes))
 total_more site nodes k v c one next here before is more =
     let cs = counts_for site nodes in
     let start = first_count cs in
     more ∙ ap (λ (x : SiteCount). more_count x one) before ∙ ap (more_count (fold more_count start (take k cs))) is
-    ∙ sym (fold_push start (take k cs) (count_in v.state.end.counts site))
-    ∙ sym (ap (fold more_count start) (take_next cs k (count_in v.state.end.counts site) (get_map site nodes k v here)))
+    ∙ sym (fold_push start (take k cs) (counted_at v.state.end.counts site))
+    ∙ sym (ap (fold more_count start) (take_next cs k (counted_at v.state.end.counts site) (get_map site nodes k v here)))
 
 take_all : (xs : List SiteCount) (k : ℕ) → length xs ≤ k → take k xs ≡ xs
 take_all [] zero h = refl
@@ -180,7 +181,7 @@ pub total_whole : (site : ℕ) (nodes : List (View NodeState)) (k : ℕ) (c : Si
 total_whole site nodes k c h e =
     e ∙ ap (fold more_count (first_count (counts_for site nodes)))
     (take_all (counts_for site nodes) k (let n : length (counts_for site nodes) ≡ length nodes = length-map nodes
-    (λ (v : View NodeState). count_in v.state.end.counts site) in omega (arith, n, h)))
+    (λ (v : View NodeState). counted_at v.state.end.counts site) in omega (arith, n, h)))
 
 pub get_some : (xs : List (View NodeState)) (k : ℕ) → k < length xs → (v : View NodeState) × (slice_get xs k ≡ Some v)
 get_some [] k h = absurd (omega arith)
@@ -204,10 +205,10 @@ totals_more nodes all k counts new one same size before told more = (
   ap length more ∙ length_push counts one ∙ ap (λ n. n + 1) size,
   λ done.
       let cs = map (λ (v : View NodeState). v.state.end.counts) nodes in
-      let f = λ (j : ℕ). total_among (map (λ (c : List SiteCount). count_in c j) cs) in
+      let f = λ (j : ℕ). total_among (map (λ (c : List SiteCount). counted_at c j) cs) in
       let here : one ≡ f k =
       told (subst (λ (l : List (View NodeState)). AreDone (λ (s : View NodeState). s) l) (sym same) done)
       ∙ ap (λ (l : List (View NodeState)). total_among (counts_for k l)) same
-      ∙ ap total_among (sym (map_map (λ (c : List SiteCount). count_in c k) (λ (v : View NodeState). v.state.end.counts) nodes)) in
+      ∙ ap total_among (sym (map_map (λ (c : List SiteCount). counted_at c k) (λ (v : View NodeState). v.state.end.counts) nodes)) in
       map-below-one f k counts new one (before done) here more,
 )

@@ -3,9 +3,7 @@ use Rattle.std.specs.Prelude.{ℕ, ◌+◌, List, [], ◌∷◌, map, fold, slic
 use Rattle.chaos_dist.specs.Counting.{below}
 use Rattle.fd_program.specs.Reports.{no_count}
 use Rattle.fd_program.specs.declared.count.SiteCount.{SiteCount}
-
-abbrev pub count_in : List SiteCount → ℕ → SiteCount
-count_in counts site = unwrap_or (slice_get counts site) no_count
+use Rattle.plan_run.specs.StandLaws.{counted_at}
 
 -- with what one more node gathered and scattered
 abbrev pub more_count : SiteCount → SiteCount → SiteCount
@@ -26,4 +24,4 @@ total_among counts = fold more_count (first_count counts) counts
 
 -- for each FORALL, where each node has these counts
 abbrev pub total_counts : ℕ → List (List SiteCount) → List SiteCount
-total_counts sites counts = map (λ k. total_among (map (λ cs. count_in cs k) counts)) (below sites)
+total_counts sites counts = map (λ k. total_among (map (λ cs. counted_at cs k) counts)) (below sites)

@@ -5,7 +5,8 @@ ghost use Rattle.bsp_core.specs.declared.phased.Want.TheVariants.{Done};
 ghost use Rattle.chaos_entering.specs.State.{NodeState};
 ghost use Rattle.fd_program.specs.Reports.{no_count};
 ghost use Rattle.fd_program.specs.declared.count.SiteCount.{SiteCount as ACount};
-ghost use Rattle.chaos_engine.specs.Counts.{count_in, first_count, more_count, total_among, total_counts};
+ghost use Rattle.chaos_engine.specs.Counts.{first_count, more_count, total_among, total_counts};
+ghost use Rattle.plan_run.specs.StandLaws.{counted_at};
 
 use bsp_core::NodeList;
 use chaos_node::Node;
@@ -16,7 +17,7 @@ use std::alloc::Global;
 
 /// What a FORALL counts on a node that is done.
 fn count_on(node: &Node<'_>, site: usize) -> SiteCount
-    ensures { next_of node.now.face ≡ Done → result ≡ count_in node.now.state.end.counts site }
+    ensures { next_of node.now.face ≡ Done → result ≡ counted_at node.now.state.end.counts site }
 {
     let none = SiteCount {
         executed: 0,
@@ -55,7 +56,7 @@ fn more(count: SiteCount, one: SiteCount) -> Result<SiteCount, Memory>
 /// The first count of several, without what was gathered and scattered.
 fn first(nodes: &[Node<'_>], site: usize) -> SiteCount
     ensures { AreDone (λ (s : View NodeState). s) nodes.now
-        → result ≡ first_count (map (λ (v : View NodeState). count_in v.state.end.counts site) nodes.now) }
+        → result ≡ first_count (map (λ (v : View NodeState). counted_at v.state.end.counts site) nodes.now) }
 {
     match nodes.first() {
         Some(node) => without_moves(count_on(node, site)),
@@ -81,7 +82,7 @@ fn without_moves(count: SiteCount) -> SiteCount
 
 /// What a FORALL counts on the node at a place, 0 where there is none.
 fn count_at(nodes: &[Node<'_>], at: usize, site: usize) -> SiteCount
-    ensures { (v : View NodeState) → slice_get nodes.now at ≡ Some v → next_of v.face ≡ Done → result ≡ count_in v.state.end.counts site }
+    ensures { (v : View NodeState) → slice_get nodes.now at ≡ Some v → next_of v.face ≡ Done → result ≡ counted_at v.state.end.counts site }
 {
     match nodes.get(at) {
         Some(node) => count_on(node, site),
@@ -98,7 +99,7 @@ fn count_at(nodes: &[Node<'_>], at: usize, site: usize) -> SiteCount
 /// scattered are summed.
 fn total(nodes: &[Node<'_>], site: usize) -> Result<SiteCount, Memory>
     ensures { IfOk result (λ c. AreDone (λ (s : View NodeState). s) nodes.now
-        → c ≡ total_among (map (λ (v : View NodeState). count_in v.state.end.counts site) nodes.now)) }
+        → c ≡ total_among (map (λ (v : View NodeState). counted_at v.state.end.counts site) nodes.now)) }
 {
     let mut count = first(nodes, site);
     for at in 0..nodes.len() {

@@ -1,12 +1,12 @@
 //! The engine that drives all nodes of a session at once.
 ghost use Rattle.std.specs.Prelude.{◌≡◌, is_some, IfOk, OnOk};
-ghost use Rattle.bsp_mail.specs.Mails.{ArePrefixes, IsFresh};
+ghost use Rattle.chaos_engine.specs.Runs.{IsAdmitted};
+ghost use Rattle.chaos_engine.specs.Threads.{AreWithinDue, HasDueLists};
 ghost use Rattle.bsp_threads.specs.Alls.{AreEmptyFrom};
+ghost use Rattle.bsp_mail.specs.Mails.{ArePrefixes, IsFresh};
 ghost use Rattle.fd_program.specs.Reports.{report_of_program};
 ghost use Rattle.fd_program.specs.Runs.{run_of};
 ghost use Rattle.fd_program.specs.Texts.{text_of};
-ghost use Rattle.chaos_engine.specs.Runs.{IsAdmitted};
-ghost use Rattle.chaos_engine.specs.Threads.{AreWithinDue, HasDueLists};
 
 use crate::turns::{EngineEnd, end_of, nodes_of};
 use bsp_mail::Mail;

@@ -1,9 +1,7 @@
 -- A phase in which an array is printed, as it is entered, and the end behind the last.
 use Rattle.std.specs.Prelude.{◌≡◌, refl, ℕ, zero, suc, ◌+◌, ◌<◌, ◌≤◌, ◌^◌, ℤ, Bool, true, false, if◌then◌else◌, List, [], ◌∷◌, ◌++◌, length}
-use Rattle.std.specs.Prelude.{map, drop, reverse, slice_get, slice_set, is_some, Option, Some, None, vec_capacity}
+use Rattle.std.specs.Prelude.{drop, reverse, slice_get, slice_set, Some, None, vec_capacity}
 use Rattle.std.proofs.Common.{ap, sym, ◌∙◌, subst, arith}
-use Rattle.std.proofs.lemmas.Grind.{reverse_onto}
-use Rattle.std.proofs.lemmas.List.{append_assoc, reverse-reverse}
 use Rattle.fd_words.specs.Lists.{list_at}
 use Rattle.bsp_core.specs.Views.{Ascends, Face, nodes_in}
 use Rattle.chaos_letter.specs.declared.letter.Letter.{Letter}
@@ -24,19 +22,16 @@ use Rattle.plan_run.specs.RowLaws.{not_sent}
 use Rattle.plan_run.specs.Rows.{IsRunPlan, RunPlan, face_left, run_in, scene_in}
 use Rattle.plan_run.specs.declared.stage.Stage.TheVariants as stage
 use Rattle.fd_program.specs.Layouts.{Scene, owners_at, store_at}
-use Rattle.fd_program.specs.Reports.{completed_of, executed_of}
+use Rattle.fd_program.specs.Reports.{completed_of}
 use Rattle.fd_program.specs.RunLaws.{IsHistory}
-use Rattle.fd_program.specs.Runs.{after_step, refusal_of, run_from, run_past}
 use Rattle.fd_program.specs.Trace.{trace_of}
 use Rattle.fd_program.specs.declared.array.OutputName.{OutputName}
-use Rattle.fd_program.specs.declared.checked.Checked.{Checked}
-use Rattle.fd_program.specs.declared.refused.Refused.{Refused}
 use Rattle.fd_program.specs.declared.trace.Step.{Step}
 use Rattle.fd_program.specs.declared.trace.Step.TheVariants.{Print}
-use Rattle.chaos_entering.specs.Coming.{CanStand, IsBehindSteps, IsComing, IsRight, IsSoundActivity, entered_state, face_of, noted}
+use Rattle.chaos_entering.specs.Coming.{CanStand, IsBehindSteps, IsComing, EntersAs, IsSoundActivity, entered_state, face_entered, noted_if}
 use Rattle.chaos_entering.specs.Entering.{ArePosted, IsRows, phase_with}
 use Rattle.chaos_holdings.specs.Keeping.{no_kept}
-use Rattle.chaos_entering.specs.Standing.{IsInStep, IsOutput, IsOver, IsPlace, IsPrint, Knows, KnowsBehind, session_in}
+use Rattle.chaos_entering.specs.Standing.{StandsInStep, IsOutput, StandsAtEnd, IsPlace, IsPrint, KnowsInStep, KnowsBehind, session_in}
 use Rattle.chaos_entering.specs.State.{NodeState, held_of}
 use Rattle.chaos_entering.specs.declared.activity.Activity.{Activity}
 use Rattle.chaos_entering.specs.declared.activity.Activity.TheVariants.{Printing, Output, Ended}
@@ -51,7 +46,7 @@ use Rattle.chaos_holdings.specs.declared.session.Session.{Session}
 abbrev state_with : NodeState → Entered → Bool → NodeState
 state_with st e b = record st {
   at = e.at;
-  inspected = noted b e.at.execution st.inspected;
+  inspected = noted_if b e.at.execution st.inspected;
   holdings = record st.holdings { kept = if b then slice_set st.holdings.kept e.at.site no_kept else st.holdings.kept };
 }
 
@@ -105,7 +100,7 @@ pub rows_face : (s : Scene) (f : Phase) (later : List Phase) (array me left : �
     (e : Entered)
     → f.step ≡ Print array → is_for_all f.stage ≡ false → is_free f.stage ≡ true → n ≡ naming_at s f → left ≡ f.left
     → rows ≡ print_rows s.checked (owners_at s f.past) (store_at s f.past) array me → IsRows n me s.nodes activity rows left e
-    → face_of me s.nodes e ≡ face_left s (f ∷ later) me
+    → face_entered me s.nodes e ≡ face_left s (f ∷ later) me
 rows_face s f later array me left activity n rows e step kind free named counted own h =
     let right = print_rows s.checked (owners_at s f.past) (store_at s f.past) array me in
     let out : e.out.items ≡ sends_in s f me (right ∷ [])
@@ -131,11 +126,11 @@ rows_are plan past rest p array st elements parts known trace history stands sam
 
 -- the place of a PRINT
 place_of : (plan : RunPlan) (phases : List Phase) (p array : ℕ) (st : NodeState) (past rest : List Step)
-    → array ≡ st.at.site → IsInStep plan phases past (Print array) rest stage.Print [] p st → IsPrint plan phases p st
+    → array ≡ st.at.site → StandsInStep plan phases past (Print array) rest stage.Print [] p st → IsPrint plan phases p st
 place_of plan phases p array st past rest same h = record {
   past = past;
   rest = rest;
-  in_step = subst (λ a. IsInStep plan phases past (Print a) rest stage.Print [] p st) same h;
+  in_step = subst (λ a. StandsInStep plan phases past (Print a) rest stage.Print [] p st) same h;
 }
 
 pub print_is_right : (plan : RunPlan) (past rest : List Step) (array p left : ℕ) (st : NodeState) (n : Naming) (rows : List ℤ) (e : Entered)
@@ -143,11 +138,11 @@ pub print_is_right : (plan : RunPlan) (past rest : List Step) (array p left : �
     → IsComing plan past (Print array) rest stage.Print [] p left st
     → rows ≡ print_rows plan.checked (owners_at (scene_in plan) past) (store_at (scene_in plan) past) array p
     → IsRows n p plan.nodes Printing rows left e
-    → IsRight plan (left_in plan past (Print array) rest (stage.Print ∷ [])) p e st
+    → EntersAs plan (left_in plan past (Print array) rest (stage.Print ∷ [])) p e st
 print_is_right plan past rest array p left st n rows e named coming own h =
     let s = scene_in plan in
     let at_site : array ≡ (entered_state st e).at.site = sym (ap (λ (a : At). a.site) h.at ∙ ap (λ (m : Naming). m.site) named) in
-    let knows = subst (λ v. Knows s (run_in plan) past (Print array) stage.Print p v) (holds_same st e h.begins) coming.knows in
+    let knows = subst (λ v. KnowsInStep s (run_in plan) past (Print array) stage.Print p v) (holds_same st e h.begins) coming.knows in
     record {
       face = rows_face s (present_phase plan past (Print array) rest stage.Print []) (left_in plan past (Print array) rest []) array p
           left Printing n rows e
@@ -178,7 +173,7 @@ pub output_is_right : (plan : RunPlan) (name : OutputName) (j p left : ℕ) (st 
     → rows ≡ print_rows plan.checked (owners_at (scene_in plan) (completed_of (run_in plan)))
     (store_at (scene_in plan) (completed_of (run_in plan))) name.array p
     → IsRows n p plan.nodes (Output j) rows left e
-    → IsRight plan (outputs_left plan (completed_of (run_in plan)) j (drop j plan.checked.outputs)) p e st
+    → EntersAs plan (outputs_left plan (completed_of (run_in plan)) j (drop j plan.checked.outputs)) p e st
 output_is_right plan name j p left st n rows e there named behind own h =
     let s = scene_in plan in
     let past = completed_of (run_in plan) in
@@ -195,7 +190,7 @@ output_is_right plan name j p left st n rows e there named behind own h =
       own = ap (λ (a : At). a.own) h.at ∙ own;
       knows = subst (λ v. KnowsBehind s (run_in plan) past j p v) (holds_same st e h.begins) behind.knows;
     } in
-    let right : IsRight plan phases p e st = record {
+    let right : EntersAs plan phases p e st = record {
       face = rows_face s (output_phase plan past j name names) (outputs_left plan past (j + 1) names) name.array p left (Output j) n rows e
           refl refl refl named (behind.left_is ∙ ap length there ∙ sym ((phases_are_counted plan past).outputs j name names)) own h
           ∙ ap (λ l. face_left s l p) (sym (outputs_follow plan past j name names));
@@ -204,7 +199,7 @@ output_is_right plan name j p left st n rows e there named behind own h =
         place = subst (λ a. IsPlace plan phases p (entered_state st e) a) (sym (ap (λ (a : At). a.activity) h.at)) place;
       };
     } in
-    subst (λ os. IsRight plan (outputs_left plan past j os) p e st) (sym there) right
+    subst (λ os. EntersAs plan (outputs_left plan past j os) p e st) (sym there) right
 
 -- ---- the end
 
@@ -223,25 +218,25 @@ drop_all (x ∷ xs) = drop_all xs
 
 pub end_is_right : (plan : RunPlan) (j p left : ℕ) (st : NodeState) (e : Entered) → length plan.checked.outputs ≤ j
     → IsBehindSteps plan j p left st → IsEnd e
-    → IsRight plan (outputs_left plan (completed_of (run_in plan)) j (drop j plan.checked.outputs)) p e st
+    → EntersAs plan (outputs_left plan (completed_of (run_in plan)) j (drop j plan.checked.outputs)) p e st
 end_is_right plan j p left st e most behind h =
     let s = scene_in plan in
     let past = completed_of (run_in plan) in
     let all : j ≡ length plan.checked.outputs = at_most j (length plan.checked.outputs) behind.within most in
     let none : drop j plan.checked.outputs ≡ [] = ap (λ k. drop k plan.checked.outputs) all ∙ drop_all plan.checked.outputs in
-    let over : IsOver plan [] p (entered_state st e) = record {
+    let over : StandsAtEnd plan [] p (entered_state st e) = record {
       none_left = refl;
       knows = subst (λ k. KnowsBehind s (run_in plan) past k p (held_of (entered_state st e))) all
           (subst (λ v. KnowsBehind s (run_in plan) past j p v) (holds_same st e h.begins) behind.knows);
     } in
-    let right : IsRight plan [] p e st = record {
+    let right : EntersAs plan [] p e st = record {
       face = face_with p s.nodes h.out h.due h.left h.got;
       holds = record {
         session = behind.session;
         place = subst (λ a. IsPlace plan [] p (entered_state st e) a) (sym h.activity) over;
       };
     } in
-    subst (λ os. IsRight plan (outputs_left plan past j os) p e st) (sym none) right
+    subst (λ os. EntersAs plan (outputs_left plan past j os) p e st) (sym none) right
 
 -- ---- what the functions give
 
@@ -273,7 +268,7 @@ pub print_enters : (session : Session) (plan : RunPlan) (past rest : List Step) 
     → IsRows (record { stage = stage.Print; execution = execution; site = array; group = 2 }) me session.nodes Printing
     (rows_held session.checked.arrays elements parts array) left e
     → IsRunPlan plan → session ≡ session_in plan → execution ≡ length past → IsComing plan past (Print array) rest stage.Print [] me left st
-    → elements ≡ st.holdings.elements → parts ≡ st.holdings.parts → IsRight plan (left_in plan past (Print array) rest (stage.Print ∷ []))
+    → elements ≡ st.holdings.elements → parts ≡ st.holdings.parts → EntersAs plan (left_in plan past (Print array) rest (stage.Print ∷ []))
     me e st
 print_enters session plan past rest execution array me left st elements parts e h known same number coming equal alike =
     let n : Naming = record { stage = stage.Print; execution = execution; site = array; group = 2 } in
@@ -300,7 +295,7 @@ pub output_enters : (session : Session) (plan : RunPlan) (execution j me left : 
     (rows_held session.checked.arrays elements parts name.array) left e
     → IsRunPlan plan → session ≡ session_in plan → IsBehindSteps plan j me left st
     → elements ≡ st.holdings.elements → parts ≡ st.holdings.parts
-    → IsRight plan (outputs_left plan (completed_of (run_in plan)) j (drop j plan.checked.outputs)) me e st
+    → EntersAs plan (outputs_left plan (completed_of (run_in plan)) j (drop j plan.checked.outputs)) me e st
 output_enters session plan execution j me left name st elements parts e there numbered h known same behind equal alike =
     let n : Naming = record { stage = stage.Output j; execution = execution; site = name.array; group = 2 } in
     let rest = completed_first plan in
@@ -321,7 +316,7 @@ none_behind (x ∷ xs) (suc j) e = omega (arith, none_behind xs j e)
 pub end_enters : (session : Session) (plan : RunPlan) (j me left : ℕ) (st : NodeState) (e : Entered) → slice_get session.checked.outputs j
     ≡ None → IsEnd e
     → session ≡ session_in plan → IsBehindSteps plan j me left st
-    → IsRight plan (outputs_left plan (completed_of (run_in plan)) j (drop j plan.checked.outputs)) me e st
+    → EntersAs plan (outputs_left plan (completed_of (run_in plan)) j (drop j plan.checked.outputs)) me e st
 end_enters session plan j me left st e none h same behind =
     end_is_right plan j me left st e (none_behind plan.checked.outputs j (ap (λ (x : Session). slice_get x.checked.outputs j) (sym same)
     ∙ none)) behind h

@@ -12,14 +12,15 @@ use Rattle.chaos_dist.specs.Counting.{below}
 use Rattle.fd_program.specs.ListLaws.{all_split, all_reversed}
 use Rattle.fd_program.specs.StepLaws.{steps_are_in, IsStepIn}
 use Rattle.chaos_facts.specs.FactsLaws.{IsRun}
-use Rattle.plan_walk.specs.Places.{StandsBefore, left_from, stages_in, whole_from}
+use Rattle.plan_walk.specs.Places.{StandsBetween, left_from, stages_in, whole_from}
 use Rattle.plan_walk.specs.StepEnds.{HasSteps, quiet_steps_pass, run_starts, steps_are_known}
 use Rattle.plan_run.specs.Held.{Held, KeepsLoop, lines_of, text_on}
 use Rattle.plan_run.specs.KeptLaws.{quiet_keeps_loops}
 use Rattle.plan_run.specs.OwnerLaws.{is_quiet}
 use Rattle.plan_run.specs.Phases.{site_of, stages_of}
 use Rattle.plan_run.specs.Rows.{IsRunPlan, RunPlan, scene_in}
-use Rattle.plan_run.specs.StandLaws.{quiet_stands, zip_weaker}
+use Rattle.plan_run.specs.StandLaws.{quiet_stands}
+use Rattle.fd_program.specs.AmongLaws.{zip_weaker}
 use Rattle.plan_run.specs.declared.kept.Kept.{Kept}
 use Rattle.fd_program.specs.Layouts.{Scene, store_at}
 use Rattle.fd_program.specs.Past.{inspecting_of, inspects_step, is_same_record, latest_of, record_at}
@@ -54,7 +55,7 @@ latest_same c past (k ∷ ks) (x ∷ kept) (y ∷ now) e h = (
 
 -- ---- before a step
 
-pub is_run : (plan : RunPlan) (past rest : List Step) → IsRunPlan plan → StandsBefore plan past rest → IsRun (scene_in plan) past
+pub is_run : (plan : RunPlan) (past rest : List Step) → IsRunPlan plan → StandsBetween plan past rest → IsRun (scene_in plan) past
 is_run plan past rest known h =
     let all : AllByRecursion (IsStepIn plan.checked) (reverse past ++ rest) = subst (AllByRecursion (IsStepIn plan.checked)) (sym h.trace)
     (steps_are_in plan.checked known.checked) in
@@ -66,7 +67,7 @@ is_run plan past rest known h =
     }
 
 pub step_is_in : (plan : RunPlan) (past : List Step) (step : Step) (rest : List Step) → IsRunPlan plan
-    → StandsBefore plan past (step ∷ rest) → IsStepIn plan.checked step
+    → StandsBetween plan past (step ∷ rest) → IsStepIn plan.checked step
 step_is_in plan past step rest known h =
     let all : AllByRecursion (IsStepIn plan.checked) (reverse past ++ (step ∷ rest)) = subst (AllByRecursion (IsStepIn plan.checked))
     (sym h.trace) (steps_are_in plan.checked known.checked) in
@@ -157,14 +158,8 @@ Searches b trace from number =
     → IsHere plan b v → HasCome plan past rest b.me v → HasReached plan past rest b.me v number
 
 pub search_begins : (b : Between) (trace : List Step) (from : ℕ) → Searches b trace from from
-search_begins b trace from plan past rest v known same at here come = record {
-  before = past;
-  behind = rest;
-  come = come;
-  number_is = at;
-  left = refl;
-  whole = refl;
-}
+search_begins b trace from plan past rest v known same at here come =
+    record { before = past; behind = rest; come = come; number_is = at; left = refl; whole = refl }
 
 -- the step there is the next
 pub record HasNext (plan : RunPlan) (past rest : List Step) (p : ℕ) (v : Held) (number : ℕ) (step : Step) : Type 0 where

@@ -1,64 +1,61 @@
 -- What was sent, and the phase that it makes.
-use Rattle.std.specs.Prelude.{◌≡◌, ℕ, ℤ, List, length, map, Option, Result, Ok, Err, IfOk}
+use Rattle.std.specs.Prelude.{◌≡◌, ℕ, ◌≤◌, ◌<◌, ◌^◌, ℤ, List, length, map, Result, Ok, Err, IfOk, Vec}
+use Rattle.std.proofs.Common.{arith, subst}
+use Rattle.std.proofs.lemmas.Result.{IfOk-weaker}
 use Rattle.fd_words.specs.Lists.{list_at}
 use Rattle.fd_words.specs.declared.wanting.Memory.{Memory}
-use Rattle.chaos_executing.specs.declared.executing.Executing.{Executing}
-use Rattle.chaos_inspect.specs.declared.inspection.Inspection.{Inspection}
-use Rattle.chaos_moving.specs.declared.moving.Moving.{Moving}
 use Rattle.plan_walk.specs.declared.stages.Naming.{Naming}
-use Rattle.chaos_sched.specs.declared.prepared.Prepared.{Prepared}
-use Rattle.chaos_table.specs.declared.pages.Pages.{Pages}
+use Rattle.chaos_entering.specs.Coming.{CanStand, IsSoundActivity}
 use Rattle.chaos_entering.specs.Entering.{ArePosted}
-use Rattle.chaos_entering.specs.Sending.{AreSentHere, HasSentInspecting, HasSentMoving, HasSentScattered, IsSomeOk, IsStagedBy}
-use Rattle.chaos_entering.specs.Sending.{SendsInspecting, SendsMoving, SendsScattered}
-use Rattle.chaos_entering.specs.declared.activity.Activity.TheVariants.{Moving as Moves, Inspecting, Scattering}
+use Rattle.chaos_entering.specs.Sending.{AreSentBy, EntersBy, IsSomeOk, IsStagedBy}
+use Rattle.chaos_entering.specs.StageLaws.{staged_stands}
+use Rattle.chaos_entering.specs.declared.activity.Activity.{Activity}
 use Rattle.chaos_entering.specs.declared.entered.Entered.{Entered}
 use Rattle.chaos_entering.specs.declared.loops.Staged.{Staged}
-use Rattle.chaos_holdings.specs.declared.session.Session.{Session}
 
-pub all_sent : (r : Result Staged Memory) (n : Naming) (me nodes : ℕ) (lists : List (List ℤ)) (counts : List ℕ)
-    → IfOk r (λ x. x.own ≡ list_at lists me)
-    → IfOk r (λ x. x.sizes ≡ map length lists) → IfOk r (λ x. ArePosted n me nodes lists counts x.posted)
-    → IfOk r (AreSentHere n me nodes lists counts)
-all_sent (Ok x) n me nodes lists counts own sizes posted = record { own = own; sizes = sizes; posted = posted }
-all_sent (Err y) n me nodes lists counts own sizes posted = tt
+-- what is told of what a call gives
+pub told_of : {A E : Type 0} (P : A → Type 0) (r : Result A E) (x : A) → r ≡ Ok x → IfOk r P → P x
+told_of P r x is h = subst (λ o. IfOk o P) is h
 
-pub moving_sent : (r : Result Staged Memory) (session : Session) (n : Naming) (me : ℕ) (m : Moving) (sizes : List ℕ) (left : ℕ)
-    (e : Entered)
-    → IfOk r (SendsMoving session n me m sizes) → IsSomeOk r (λ x. IsStagedBy n (Moves m) left x e)
-    → HasSentMoving session n me m sizes left e
-moving_sent (Ok x) session n me m sizes left e h by = record {
-  lists = h.lists;
-  counts = h.counts;
-  due = h.due;
-  counted = h.counted;
-  staged = by me session.nodes h.lists h.counts h.sent;
+-- what was sent, from what is told of it in parts
+pub all_sent : {Z : Type 0} (r : Result Staged Memory) (n : Naming) (me nodes : ℕ) (made : Result (List (List ℤ)) Memory)
+    (known : Result (Vec ℕ Z) Memory) (lists : List (List ℤ)) (counts : Vec ℕ Z) (l : List ℕ)
+    → made ≡ Ok lists → known ≡ Ok counts → l ≡ counts.items → IfOk r (λ x. x.own ≡ list_at lists me)
+    → IfOk r (λ x. x.sizes ≡ map length lists) → IfOk r (λ x. ArePosted n me nodes lists l x.posted)
+    → IfOk r (AreSentBy n me nodes made known)
+all_sent (Ok x) n me nodes made known lists counts l made_is known_is is own sizes posted = record {
+  lists = lists;
+  counts = counts;
+  made_is = made_is;
+  known_is = known_is;
+  sent = record { own = own; sizes = sizes; posted = subst (λ k. ArePosted n me nodes lists k x.posted) is posted };
 }
-moving_sent (Err y) session n me m sizes left e h by = absurd by
+all_sent (Err y) n me nodes made known lists counts l made_is known_is is own sizes posted = tt
 
-pub inspecting_sent : (r : Result Staged Memory) (session : Session) (n : Naming) (me : ℕ) (i : Inspection) (parts : List (List ℤ))
-    (pages : List (Option Pages)) (sizes : List ℕ) (left : ℕ) (e : Entered)
-    → IfOk r (SendsInspecting session n me i parts pages sizes) → IsSomeOk r (λ x. IsStagedBy n (Inspecting i) left x e)
-    → HasSentInspecting session n me i parts pages sizes left e
-inspecting_sent (Ok x) session n me i parts pages sizes left e h by = record {
-  lists = h.lists;
-  counts = h.counts;
-  due = h.due;
-  counted = h.counted;
-  staged = by me session.nodes h.lists h.counts h.sent;
-}
-inspecting_sent (Err y) session n me i parts pages sizes left e h by = absurd by
+module _ {Z : Type 0} (n : Naming) (me nodes : ℕ) (activity : Activity) (made : Result (List (List ℤ)) Memory)
+    (known : Result (Vec ℕ Z) Memory) (left : ℕ) where
+  pub enters_by : (r : Result Staged Memory) (q : Result Entered Memory) → IfOk r (AreSentBy n me nodes made known)
+      → IfOk q (λ e. IsSomeOk r (λ x. IsStagedBy n activity left x e)) → IfOk q (EntersBy n me nodes activity made known left)
+  enters_by (Ok x) (Ok e) h by = record {
+    lists = h.lists;
+    counts = h.counts;
+    made_is = h.made_is;
+    known_is = h.known_is;
+    staged = by me nodes h.lists h.counts.items h.sent;
+  }
+  enters_by (Ok x) (Err y) h by = tt
+  enters_by (Err z) (Ok e) h by = absurd by
+  enters_by (Err z) (Err y) h by = tt
 
-pub scattered_sent : (r : Result Staged Memory) (session : Session) (n : Naming) (me : ℕ) (kept : Prepared) (x : Executing) (left : ℕ)
-    (e : Entered)
-    → IfOk r (SendsScattered session n me kept x) → IsSomeOk r (λ y. IsStagedBy n (Scattering x) left y e)
-    → HasSentScattered session n me kept x left e
-scattered_sent (Ok y) session n me kept x left e h by = record {
-  lists = h.lists;
-  counts = h.counts;
-  due = h.due;
-  counted = h.counted;
-  law = h.law;
-  staged = by me session.nodes h.lists h.counts h.sent;
-}
-scattered_sent (Err y) session n me kept x left e h by = absurd by
+  pub stands_by : (r : Result Staged Memory) (q : Result Entered Memory) → left < 2 ^ 31 → IsSoundActivity activity
+      → IfOk r (AreSentBy n me nodes made known) → IfOk q (λ e. IsSomeOk r (λ x. IsStagedBy n activity left x e))
+      → IfOk q (CanStand me nodes)
+  stands_by r q small sound h by =
+      IfOk-weaker q (EntersBy n me nodes activity made known left) (CanStand me nodes)
+      (λ e x. staged_stands n me nodes activity x.lists x.counts.items left e small sound x.staged) (enters_by r q h by)
+
+  pub falls_by : (r : Result Staged Memory) (q : Result Entered Memory) → IfOk r (AreSentBy n me nodes made known)
+      → IfOk q (λ e. IsSomeOk r (λ x. IsStagedBy n activity left x e)) → IfOk q (λ e. e.left ≤ left)
+  falls_by r q h by =
+      IfOk-weaker q (EntersBy n me nodes activity made known left) (λ e. e.left ≤ left)
+      (λ e x. let same : e.left ≡ left = x.staged.left_is in omega (arith, same)) (enters_by r q h by)

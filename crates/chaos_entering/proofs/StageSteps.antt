@@ -32,7 +32,7 @@ use Rattle.plan_run.specs.declared.stage.Stage.{Stage}
 use Rattle.plan_run.specs.declared.stage.Stage.TheVariants as stage
 use Rattle.chaos_sched.specs.declared.prepared.Prepared.{Prepared}
 use Rattle.chaos_moving.specs.InRun.{owners_after}
-use Rattle.chaos_moving.specs.IsMoving.{IsMoving, sent_in as sent_in_move}
+use Rattle.chaos_moving.specs.IsMoving.{IsMoving, lists_moved as sent_in_move}
 use Rattle.chaos_moving.specs.Stages.{stage_in}
 use Rattle.chaos_moving.specs.declared.moving.Moving.{Moving}
 use Rattle.chaos_inspect.specs.Inspecting.{IsDue, IsInspecting, phase_of}
@@ -45,11 +45,11 @@ use Rattle.plan_walk.specs.Letters.{number_in}
 use Rattle.plan_walk.specs.Places.{left_in, present_phase}
 use Rattle.plan_walk.specs.declared.stages.Naming.{Naming}
 use Rattle.chaos_entering.specs.Behind.{stages_behind}
-use Rattle.chaos_entering.specs.Coming.{IsComing, IsRight, KnowsLengths, entered_state}
+use Rattle.chaos_entering.specs.Coming.{IsComing, EntersAs, KnowsLengths, entered_state}
 use Rattle.chaos_entering.specs.Entering.{ArePosted, IsStaged, counts_behind, naming_in, phase_with}
 use Rattle.chaos_holdings.specs.Keeping.{prepared_in}
 use Rattle.chaos_entering.specs.StageLaws.{IsStage, stage_comes}
-use Rattle.chaos_entering.specs.Standing.{GoesOnInspecting, GoesOnMoving, HasSizes, IsInStep, IsPlace, session_in}
+use Rattle.chaos_entering.specs.Standing.{GoesOnInspecting, GoesOnMoving, HasSizes, StandsInStep, IsPlace, session_in}
 use Rattle.chaos_entering.specs.State.{NodeState, held_of}
 use Rattle.chaos_entering.specs.declared.activity.Activity.{Activity}
 use Rattle.chaos_entering.specs.declared.activity.Activity.TheVariants.{Moving as Moves, Inspecting, Gathering, Scattering}
@@ -70,26 +70,24 @@ none_some (Some y) x a b = cc
 pub least_left : (a b : ℕ) → a ≡ 0 → a ≤ b
 least_left a b e = omega (arith, e)
 
-pub no_more : (a b : ℕ) → a ≡ b → a ≤ b
-no_more a b e = omega (arith, e)
-
 from_nought : (n : ℕ) → 0 + n ≡ n
 from_nought n = omega arith
 
-staged_in_plan : (plan : RunPlan) (session : Session) (st : Stage) (execution : ℕ) (past : List Step) (site me : ℕ) (activity : Activity)
-    (lists : List (List ℤ)) (counts : List ℕ) (left : ℕ) (e : Entered)
-    → session ≡ session_in plan → execution ≡ length past → IsStaged (naming_in session.checked st execution site) me session.nodes
-    activity lists counts left e
+staged_in_plan : (plan : RunPlan) (session : Session) (st told : Stage) (execution : ℕ) (past : List Step) (site me : ℕ)
+    (activity : Activity) (lists : List (List ℤ)) (counts : List ℕ) (left : ℕ) (e : Entered)
+    → told ≡ st → session ≡ session_in plan → execution ≡ length past
+    → IsStaged (naming_in session.checked told execution site) me session.nodes activity lists counts left e
     → IsStaged (naming_in plan.checked st (length past) site) me plan.nodes activity lists counts left e
-staged_in_plan plan session st execution past site me activity lists counts left e same number h =
-    subst (λ n. IsStaged (naming_in plan.checked st n site) me plan.nodes activity lists counts left e) number
-    (subst (λ (x : Session). IsStaged (naming_in x.checked st execution site) me x.nodes activity lists counts left e) same h)
+staged_in_plan plan session st told execution past site me activity lists counts left e equal same number h =
+    subst (λ t. IsStaged (naming_in plan.checked t (length past) site) me plan.nodes activity lists counts left e) equal
+    (subst (λ n. IsStaged (naming_in plan.checked told n site) me plan.nodes activity lists counts left e) number
+    (subst (λ (x : Session). IsStaged (naming_in x.checked told execution site) me x.nodes activity lists counts left e) same h))
 
 right_by : (plan : RunPlan) (past : List Step) (step : Step) (rest : List Step) (st : Stage) (more : List Stage) (p : ℕ)
     (activity : Activity) (e : Entered) (node : NodeState)
     → IsStage plan past step rest st more p activity e node → IsPlace plan (left_in plan past step rest (st ∷ more)) p
     (entered_state node e) activity
-    → IsRight plan (left_in plan past step rest (st ∷ more)) p e node
+    → EntersAs plan (left_in plan past step rest (st ∷ more)) p e node
 right_by plan past step rest st more p activity e node h place = record {
   face = h.face;
   holds = record {
@@ -99,12 +97,13 @@ right_by plan past step rest st more p activity e node h place = record {
   };
 }
 
-known_counts : (plan : RunPlan) (past : List Step) (step : Step) (rest : List Step) (st : Stage) (more : List Stage) (p : ℕ)
-    (sizes counts : List ℕ)
-    → KnowsLengths plan past step st p sizes → counts ≡ counts_behind st plan.nodes sizes
+known_counts : (plan : RunPlan) (session : Session) (past : List Step) (step : Step) (rest : List Step) (st : Stage) (more : List Stage)
+    (told : Stage) (p : ℕ) (sizes counts : List ℕ)
+    → told ≡ st → session ≡ session_in plan → KnowsLengths plan past step st p sizes → counts ≡ counts_behind told session.nodes sizes
     → AreCounted (scene_in plan) (present_phase plan past step rest st more) p counts
-known_counts plan past step rest st more p sizes counts knows same q less sent known = ap (λ (c : List ℕ). number_in c q) same
-    ∙ knows known q less
+known_counts plan session past step rest st more told p sizes counts equal same knows counted q less sent known =
+    ap (λ (c : List ℕ). number_in c q) (counted ∙ ap (λ (x : Session). counts_behind told x.nodes sizes) same
+    ∙ ap (λ t. counts_behind t plan.nodes sizes) equal) ∙ knows known q less
 
 -- ---- a move
 
@@ -112,18 +111,21 @@ pub next_stage : (m : Moving) (plan : RunPlan) (past : List Step) (d : ℕ) (for
     → GoesOnMoving plan past d form now more p m → stage_in m.stage ≡ Some now
 next_stage m plan past d form now more p h = ap (λ (l : List Stage). slice_get l 0) h.left
 
-pub move_comes : (plan : RunPlan) (past rest : List Step) (form : StepForm) (now : Stage) (more : List Stage) (p left : ℕ) (st : NodeState)
-    (session : Session) (execution : ℕ) (m : Moving) (sizes counts : List ℕ) (lists : List (List ℤ)) (e : Entered)
+-- by the stage that the move tells
+pub move_enters : (plan : RunPlan) (past rest : List Step) (form : StepForm) (now : Stage) (more : List Stage) (p left : ℕ) (st : NodeState)
+    (session : Session) (execution : ℕ) (m : Moving) (sizes counts : List ℕ) (lists : List (List ℤ)) (e : Entered) (told : Stage)
+    → stage_in m.stage ≡ Some told
     → session ≡ session_in plan → execution ≡ length past
     → IsComing plan past (Distribute m.share.decomposition form) rest now more p left st
     → GoesOnMoving plan past m.share.decomposition form now more p m
     → KnowsLengths plan past (Distribute m.share.decomposition form) now p sizes
     → ((s : Scene) (owners : List (List ℕ)) (store : List (List ℤ)) (new : List ℕ) → IsMoving m s owners store new
     → IfSome (stage_in m.stage) (λ stage. lists ≡ sent_in_move s owners store m.share.decomposition new stage m.share.me))
-    → counts ≡ counts_behind now session.nodes sizes
-    → IsStaged (naming_in session.checked now execution m.share.decomposition) p session.nodes (Moves m) lists counts left e
-    → IsRight plan (left_in plan past (Distribute m.share.decomposition form) rest (now ∷ more)) p e st
-move_comes plan past rest form now more p left st session execution m sizes counts lists e same number come goes knows sent counted staged =
+    → counts ≡ counts_behind told session.nodes sizes
+    → IsStaged (naming_in session.checked told execution m.share.decomposition) p session.nodes (Moves m) lists counts left e
+    → EntersAs plan (left_in plan past (Distribute m.share.decomposition form) rest (now ∷ more)) p e st
+move_enters plan past rest form now more p left st session execution m sizes counts lists e told is same number come goes knows sent
+    counted staged =
     let s = scene_in plan in
     let d = m.share.decomposition in
     let step = Distribute d form in
@@ -132,22 +134,22 @@ move_comes plan past rest form now more p left st session execution m sizes coun
     let owners = owners_at s past in
     let store = store_at s past in
     let new = owners_after s past d form in
+    let equal : told ≡ now = same_some told now (sym is ∙ next_stage m plan past d form now more p goes) in
     let due : IfSome (Some now) (λ stage. lists ≡ sent_in_move s owners store d new stage m.share.me)
     = subst (λ o. IfSome o (λ stage. lists ≡ sent_in_move s owners store d new stage m.share.me))
     (next_stage m plan past d form now more p goes) (sent s owners store new goes.moving) in
     let lists_are : lists ≡ map (λ q. numbers_at s past step now p q) (below plan.nodes) = due
     ∙ ap (sent_in_move s owners store d new now) goes.node in
-    let counts_are : counts ≡ counts_behind now plan.nodes sizes = counted ∙ ap (λ (x : Session). counts_behind now x.nodes sizes) same in
     let stands = stage_comes plan past step rest now more p left st (Moves m) lists counts e come lists_are
-    (known_counts plan past step rest now more p sizes counts knows counts_are)
-    (staged_in_plan plan session now execution past d p (Moves m) lists counts left e same number staged) in
+    (known_counts plan session past step rest now more told p sizes counts equal same knows counted)
+    (staged_in_plan plan session now told execution past d p (Moves m) lists counts left e equal same number staged) in
     right_by plan past step rest now more p (Moves m) e st stands (record {
       past = past;
       rest = rest;
       form = form;
       stage = now;
       more = more;
-      in_step = subst (λ k. IsInStep plan phases past (Distribute k form) rest now more p after) (sym stands.site_is) stands.in_step;
+      in_step = subst (λ k. StandsInStep plan phases past (Distribute k form) rest now more p after) (sym stands.site_is) stands.in_step;
       sizes = subst (λ k. HasSizes plan past (Distribute k form) now p after) (sym stands.site_is) stands.sizes;
       goes_on = subst (λ k. GoesOnMoving plan past k form now more p m) (sym stands.site_is) goes;
     })
@@ -166,7 +168,7 @@ pub gather_comes : (plan : RunPlan) (past rest : List Step) (turn : LoopTurn) (p
     → parts ≡ st.holdings.parts
     → counts ≡ map (λ items. 3 * length items) prepared.schedule.gather_fetch
     → IsStaged (naming_in session.checked (stage.InLoop phase.Gather) execution site) p session.nodes Gathering lists counts left e
-    → IsRight plan (left_in plan past (Forall site turn) rest (stage.InLoop phase.Gather ∷ stage.InLoop phase.Scatter ∷ [])) p e st
+    → EntersAs plan (left_in plan past (Forall site turn) rest (stage.InLoop phase.Gather ∷ stage.InLoop phase.Scatter ∷ [])) p e st
 gather_comes plan past rest turn p left st session execution site prepared parts lists counts e law same number come some kept can sent
     here counted staged =
     let s = scene_in plan in
@@ -180,13 +182,13 @@ gather_comes plan past rest turn p left st session execution site prepared parts
     let counts_are = counted ∙ law (loop_at s past site turn) (owners_at s past) (store_at s past) _ p prepared can.inspected.fits in
     let stands = stage_comes plan past step rest now more p left st Gathering lists counts e come lists_are
     (all_lengths_are_counted s f p counts counts_are)
-    (staged_in_plan plan session now execution past site p Gathering lists counts left e same number staged) in
+    (staged_in_plan plan session now now execution past site p Gathering lists counts left e refl same number staged) in
     right_by plan past step rest now more p Gathering e st stands (record {
       past = past;
       rest = rest;
       turn = turn;
       prepared = prepared;
-      in_step = subst (λ k. IsInStep plan phases past (Forall k turn) rest now more p after) (sym stands.site_is) stands.in_step;
+      in_step = subst (λ k. StandsInStep plan phases past (Forall k turn) rest now more p after) (sym stands.site_is) stands.in_step;
       some = some;
       kept = ap (λ (h : Holdings). prepared_in h.kept e.at.site) stands.kept ∙ ap (prepared_in st.holdings.kept) stands.site_is ∙ kept;
       can = subst (λ k. CanExecute s past k turn p after.holdings.tables prepared) (sym stands.site_is)
@@ -203,7 +205,7 @@ pub scatter_comes : (plan : RunPlan) (past rest : List Step) (turn : LoopTurn) (
     → lists ≡ sent_at_loop (scene_in plan) past site turn phase.Scatter p
     → counts ≡ map (λ items. 3 * length items) prepared.schedule.scatter_take
     → IsStaged (naming_in session.checked (stage.InLoop phase.Scatter) execution site) p session.nodes (Scattering x) lists counts left e
-    → IsRight plan (left_in plan past (Forall site turn) rest (stage.InLoop phase.Scatter ∷ [])) p e st
+    → EntersAs plan (left_in plan past (Forall site turn) rest (stage.InLoop phase.Scatter ∷ [])) p e st
 scatter_comes plan past rest turn p left st session execution site prepared x lists counts e law same number come some kept executing sent
     counted staged =
     let s = scene_in plan in
@@ -216,13 +218,13 @@ scatter_comes plan past rest turn p left st session execution site prepared x li
     executing.can.inspected.fits in
     let stands = stage_comes plan past step rest now [] p left st (Scattering x) lists counts e come sent
     (all_lengths_are_counted s f p counts counts_are)
-    (staged_in_plan plan session now execution past site p (Scattering x) lists counts left e same number staged) in
+    (staged_in_plan plan session now now execution past site p (Scattering x) lists counts left e refl same number staged) in
     right_by plan past step rest now [] p (Scattering x) e st stands (record {
       past = past;
       rest = rest;
       turn = turn;
       prepared = prepared;
-      in_step = subst (λ k. IsInStep plan phases past (Forall k turn) rest now [] p after) (sym stands.site_is) stands.in_step;
+      in_step = subst (λ k. StandsInStep plan phases past (Forall k turn) rest now [] p after) (sym stands.site_is) stands.in_step;
       some = some;
       kept = ap (λ (h : Holdings). prepared_in h.kept e.at.site) stands.kept ∙ ap (prepared_in st.holdings.kept) stands.site_is ∙ kept;
       executing = subst (λ k. IsExecuting s past k turn p after.holdings.tables prepared x) (sym stands.site_is)
@@ -277,9 +279,11 @@ are_pages s past site turn p v stands owned d less =
 
 -- ---- an inspection
 
-pub inspection_comes : (plan : RunPlan) (past rest : List Step) (turn : LoopTurn) (present : LoopPhase) (p left : ℕ) (st : NodeState)
+-- by the phase that the inspection tells
+pub inspection_enters : (plan : RunPlan) (past rest : List Step) (turn : LoopTurn) (present : LoopPhase) (p left : ℕ) (st : NodeState)
     (session : Session) (execution site : ℕ) (i : Inspection) (parts lists : List (List ℤ)) (pages : List (Option Pages))
-    (sizes counts : List ℕ) (e : Entered)
+    (sizes counts : List ℕ) (e : Entered) (told : LoopPhase)
+    → phase_of i.stage ≡ Some told
     → session ≡ session_in plan → execution ≡ length past
     → IsComing plan past (Forall site turn) rest (stage.InLoop present) (stages_behind (loop_at (scene_in plan) past site turn) present) p
     left st
@@ -287,12 +291,12 @@ pub inspection_comes : (plan : RunPlan) (past rest : List Step) (turn : LoopTurn
     → KnowsLengths plan past (Forall site turn) (stage.InLoop present) p sizes
     → ((owners : List (List ℕ)) (store : List (List ℤ)) (tables : List Stamps) → IsInspecting i owners store tables
     → parts ≡ parts_of i.facts.arrays owners store i.me → ArePages i.facts i.me owners pages → IsDue i owners store lists)
-    → counts ≡ counts_behind (stage.InLoop present) session.nodes sizes
-    → IsStaged (naming_in session.checked (stage.InLoop present) execution site) p session.nodes (Inspecting i) lists counts left e
-    → IsRight plan (left_in plan past (Forall site turn) rest
+    → counts ≡ counts_behind (stage.InLoop told) session.nodes sizes
+    → IsStaged (naming_in session.checked (stage.InLoop told) execution site) p session.nodes (Inspecting i) lists counts left e
+    → EntersAs plan (left_in plan past (Forall site turn) rest
     (stage.InLoop present ∷ stages_behind (loop_at (scene_in plan) past site turn) present)) p e st
-inspection_comes plan past rest turn present p left st session execution site i parts lists pages sizes counts e same number come goes
-    here pages_here knows sent counted staged =
+inspection_enters plan past rest turn present p left st session execution site i parts lists pages sizes counts e told is same number come
+    goes here pages_here knows sent counted staged =
     let s = scene_in plan in
     let f = loop_at s past site turn in
     let now = stage.InLoop present in
@@ -315,67 +319,24 @@ inspection_comes plan past rest turn present p left st session execution site i 
     (sent owners store st.holdings.tables goes.inspecting parts_are pages_are) in
     let lists_are : lists ≡ map (λ q. numbers_at s past step now p q) (below plan.nodes)
     = due ∙ ap (λ f. sent_in f owners store present i.me) goes.facts ∙ ap (sent_in f owners store present) goes.node in
-    let counts_are : counts ≡ counts_behind now plan.nodes sizes = counted ∙ ap (λ (x : Session). counts_behind now x.nodes sizes) same in
+    let equal : stage.InLoop told ≡ now = ap (λ l. stage.InLoop l) (same_some told present (sym is ∙ goes.phase_is)) in
     let stands = stage_comes plan past step rest now more p left st (Inspecting i) lists counts e come lists_are
-    (known_counts plan past step rest now more p sizes counts knows counts_are)
-    (staged_in_plan plan session now execution past site p (Inspecting i) lists counts left e same number staged) in
+    (known_counts plan session past step rest now more (stage.InLoop told) p sizes counts equal same knows counted)
+    (staged_in_plan plan session now (stage.InLoop told) execution past site p (Inspecting i) lists counts left e equal same number
+    staged) in
     right_by plan past step rest now more p (Inspecting i) e st stands (record {
       past = past;
       rest = rest;
       turn = turn;
       present = present;
-      in_step = subst (λ k. IsInStep plan phases past (Forall k turn) rest now (stages_behind (loop_at s past k turn) present) p after)
+      in_step = subst (λ k. StandsInStep plan phases past (Forall k turn) rest now (stages_behind (loop_at s past k turn) present) p after)
           (sym stands.site_is) stands.in_step;
       sizes = subst (λ k. HasSizes plan past (Forall k turn) now p after) (sym stands.site_is) stands.sizes;
       goes_on = subst (λ k. GoesOnInspecting plan past k turn present p after.holdings.tables i) (sym stands.site_is)
           (subst (λ (h : Holdings). GoesOnInspecting plan past site turn present p h.tables i) (sym stands.kept) goes);
     })
 
--- ---- by the stage that the move tells
-
-pub move_enters : (plan : RunPlan) (past rest : List Step) (form : StepForm) (now : Stage) (more : List Stage) (p left : ℕ) (st : NodeState)
-    (session : Session) (execution : ℕ) (m : Moving) (sizes counts : List ℕ) (lists : List (List ℤ)) (e : Entered) (told : Stage)
-    → stage_in m.stage ≡ Some told
-    → session ≡ session_in plan → execution ≡ length past
-    → IsComing plan past (Distribute m.share.decomposition form) rest now more p left st
-    → GoesOnMoving plan past m.share.decomposition form now more p m
-    → KnowsLengths plan past (Distribute m.share.decomposition form) now p sizes
-    → ((s : Scene) (owners : List (List ℕ)) (store : List (List ℤ)) (new : List ℕ) → IsMoving m s owners store new
-    → IfSome (stage_in m.stage) (λ stage. lists ≡ sent_in_move s owners store m.share.decomposition new stage m.share.me))
-    → counts ≡ counts_behind told session.nodes sizes
-    → IsStaged (naming_in session.checked told execution m.share.decomposition) p session.nodes (Moves m) lists counts left e
-    → IsRight plan (left_in plan past (Distribute m.share.decomposition form) rest (now ∷ more)) p e st
-move_enters plan past rest form now more p left st session execution m sizes counts lists e told is same number come goes knows sent
-    counted staged =
-    let equal : told ≡ now = same_some told now (sym is ∙ next_stage m plan past m.share.decomposition form now more p goes) in
-    move_comes plan past rest form now more p left st session execution m sizes counts lists e same number come goes knows sent
-    (subst (λ t. counts ≡ counts_behind t session.nodes sizes) equal counted)
-    (subst (λ t. IsStaged (naming_in session.checked t execution m.share.decomposition) p session.nodes (Moves m) lists counts left e)
-    equal staged)
-
-pub inspection_enters : (plan : RunPlan) (past rest : List Step) (turn : LoopTurn) (present : LoopPhase) (p left : ℕ) (st : NodeState)
-    (session : Session) (execution site : ℕ) (i : Inspection) (parts lists : List (List ℤ)) (pages : List (Option Pages))
-    (sizes counts : List ℕ) (e : Entered) (told : LoopPhase)
-    → phase_of i.stage ≡ Some told
-    → session ≡ session_in plan → execution ≡ length past
-    → IsComing plan past (Forall site turn) rest (stage.InLoop present) (stages_behind (loop_at (scene_in plan) past site turn) present) p
-    left st
-    → GoesOnInspecting plan past site turn present p st.holdings.tables i → parts ≡ st.holdings.parts → pages ≡ st.holdings.pages
-    → KnowsLengths plan past (Forall site turn) (stage.InLoop present) p sizes
-    → ((owners : List (List ℕ)) (store : List (List ℤ)) (tables : List Stamps) → IsInspecting i owners store tables
-    → parts ≡ parts_of i.facts.arrays owners store i.me → ArePages i.facts i.me owners pages → IsDue i owners store lists)
-    → counts ≡ counts_behind (stage.InLoop told) session.nodes sizes
-    → IsStaged (naming_in session.checked (stage.InLoop told) execution site) p session.nodes (Inspecting i) lists counts left e
-    → IsRight plan (left_in plan past (Forall site turn) rest
-    (stage.InLoop present ∷ stages_behind (loop_at (scene_in plan) past site turn) present)) p e st
-inspection_enters plan past rest turn present p left st session execution site i parts lists pages sizes counts e told is same number come
-    goes here pages_here knows sent counted staged =
-    let equal : told ≡ present = same_some told present (sym is ∙ goes.phase_is) in
-    inspection_comes plan past rest turn present p left st session execution site i parts lists pages sizes counts e same number come goes
-    here pages_here knows sent
-    (subst (λ t. counts ≡ counts_behind (stage.InLoop t) session.nodes sizes) equal counted)
-    (subst (λ t. IsStaged (naming_in session.checked (stage.InLoop t) execution site) p session.nodes (Inspecting i) lists counts left e)
-    equal staged)
+-- ---- what is over has no stage
 
 pub no_move : (m : Moving) (plan : RunPlan) (past : List Step) (d : ℕ) (form : StepForm) (now : Stage) (more : List Stage) (p : ℕ)
     → stage_in m.stage ≡ None → GoesOnMoving plan past d form now more p m → ⊥

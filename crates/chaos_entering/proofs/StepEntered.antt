@@ -1,6 +1,7 @@
 -- The first phase of a step, as it is entered, and the end of the steps.
 use Rattle.std.specs.Prelude.{◌≡◌, refl, ℕ, zero, suc, ◌+◌, ◌<◌, ◌≤◌, ◌^◌, ℤ, pos, Bool, true, false, ◌&&◌, ◌==◌, if◌then◌else◌, List, []}
 use Rattle.std.specs.Prelude.{◌∷◌, ◌++◌, length, map, reverse, slice_get, slice_set, Option, Some, None, IsSomeAnd, IfSome, MatchBool}
+use Rattle.std.specs.Prelude.{Result, IfOk}
 use Rattle.std.specs.List.{AllByRecursion, AllZip, range_with_len}
 use Rattle.std.specs.Option.{option_and_then, option_map}
 use Rattle.std.proofs.Common.{ap, sym, ◌∙◌, subst, arith, append-nil}
@@ -28,13 +29,13 @@ use Rattle.plan_walk.specs.PhaseBegins.{only_inspections_stop, phases_are_counte
 use Rattle.plan_walk.specs.Places.{left_from, left_in, outputs_left, stages_in, whole_in}
 use Rattle.plan_walk.specs.StepEnds.{run_starts, stages_are_known}
 use Rattle.inspect_uses.specs.Accepted.{AreOwners}
-use Rattle.plan_run.specs.Held.{Held, IsInspected, KeepsAtEnd, KeepsLoop, inspected_at, is_executing, is_inspecting, is_stopped, lines_of}
-use Rattle.plan_run.specs.Held.{refused_at, text_at, text_on}
+use Rattle.plan_run.specs.Held.{Held, IsInspected, KeepsAtEnd, KeepsLoop, is_executing, is_inspecting, is_stopped, lines_of}
+use Rattle.plan_run.specs.Held.{text_on}
 use Rattle.plan_run.specs.InspectionLaws.{inspection_begins}
 use Rattle.plan_run.specs.KeptLaws.{reused_is_kept}
 use Rattle.plan_run.specs.Phases.{is_free, loop_stages, moving_stages, site_of}
 use Rattle.plan_run.specs.Rows.{IsRunPlan, RunPlan, run_in, scene_in}
-use Rattle.plan_run.specs.StandLaws.{zip_weaker}
+use Rattle.fd_program.specs.AmongLaws.{zip_weaker}
 use Rattle.plan_run.specs.WithinLaws.{is_output, not_refused, plain_text, present_inspected, step_begins}
 use Rattle.plan_run.specs.declared.kept.Kept.{Kept}
 use Rattle.plan_run.specs.declared.stage.Stage.{Stage}
@@ -44,7 +45,7 @@ use Rattle.fd_program.specs.Layouts.{Scene, loop_at, owners_at, store_at}
 use Rattle.fd_program.specs.Loops.{offence_of}
 use Rattle.fd_program.specs.Past.{inspecting_of, inspects_step, is_repeat}
 use Rattle.fd_program.specs.Reports.{completed_of}
-use Rattle.fd_program.specs.Runs.{Run, refusal_of}
+use Rattle.fd_program.specs.Runs.{refusal_of}
 use Rattle.fd_program.specs.Stores.{FitsStore}
 use Rattle.fd_program.specs.Texts.{refusal_text}
 use Rattle.fd_program.specs.Trace.{is_empty_turn, site_at}
@@ -57,10 +58,13 @@ use Rattle.fd_program.specs.declared.trace.Step.TheVariants.{Distribute, Print, 
 use Rattle.fd_words.specs.declared.place.Offence.{Offence}
 use Rattle.fd_program.specs.ListLaws.{all_reversed, all_split}
 use Rattle.chaos_entering.specs.Behind.{inspection_from_first, stages_behind}
-use Rattle.chaos_entering.specs.Coming.{CanStand, FindsNone, FindsStep, IsBehindSteps, IsComing, IsHere, IsNext, IsRight, KnowsLengths}
-use Rattle.chaos_entering.specs.Coming.{entered_state, noted}
+use Rattle.fd_words.specs.declared.wanting.Memory.{Memory}
+use Rattle.chaos_entering.specs.declared.ahead.Ahead.{Ahead}
+use Rattle.chaos_entering.specs.Coming.{CanStand, EntersStep, FindsNone, FindsStep, IsBehindSteps, IsComing, IsHere, ComesNext, EntersAs}
+use Rattle.chaos_entering.specs.Coming.{KnowsLengths}
+use Rattle.chaos_entering.specs.Coming.{entered_state, noted_if}
 use Rattle.chaos_holdings.specs.Keeping.{no_kept, prepared_by, prepared_in}
-use Rattle.chaos_entering.specs.Standing.{GoesOnInspecting, GoesOnMoving, HasCome, HoldsAt, Knows, KnowsBehind, session_in}
+use Rattle.chaos_entering.specs.Standing.{GoesOnInspecting, GoesOnMoving, HasCome, HoldsAt, KnowsInStep, KnowsBehind, session_in}
 use Rattle.chaos_entering.specs.State.{NodeState, held_of}
 use Rattle.chaos_entering.specs.declared.entered.Entered.{Entered}
 use Rattle.chaos_holdings.specs.declared.session.Session.{Session}
@@ -93,7 +97,7 @@ inspects_no_loop c past (Forall site turn) k e = ap (λ b. (site == k) && b) e �
 
 pub knows_first : (plan : RunPlan) (past rest : List Step) (step : Step) (first : Stage) (p : ℕ) (v : Held)
     → HasCome plan past (step ∷ rest) p v
-    → is_output first ≡ false → inspects_step plan.checked past step ≡ false → Knows (scene_in plan) (run_in plan) past step first p v
+    → is_output first ≡ false → inspects_step plan.checked past step ≡ false → KnowsInStep (scene_in plan) (run_in plan) past step first p v
 knows_first plan past rest step first p v come plain none =
     let s = scene_in plan in
     let run = run_in plan in
@@ -110,7 +114,7 @@ knows_first plan past rest step first p v come plain none =
 -- ---- what comes
 
 pub coming_of : (plan : RunPlan) (past rest : List Step) (step : Step) (first : Stage) (more : List Stage) (p left : ℕ) (st : NodeState)
-    → IsNext plan past (step ∷ rest) p left st
+    → ComesNext plan past (step ∷ rest) p left st
     → stages_in plan past step ≡ first ∷ more → is_output first ≡ false → inspects_step plan.checked past step ≡ false
     → IsComing plan past step rest first more p left st
 coming_of plan past rest step first more p left st next stages plain none = record {
@@ -123,8 +127,8 @@ coming_of plan past rest step first more p left st next stages plain none = reco
 
 pub right_from : (plan : RunPlan) (past rest : List Step) (step : Step) (stages : List Stage) (p : ℕ) (e : Entered) (st : NodeState)
     → stages_in plan past step ≡ stages
-    → IsRight plan (left_in plan past step rest stages) p e st → IsRight plan (left_from plan past (step ∷ rest)) p e st
-right_from plan past rest step stages p e st same h = subst (λ l. IsRight plan (left_in plan past step rest l) p e st) (sym same) h
+    → EntersAs plan (left_in plan past step rest stages) p e st → EntersAs plan (left_from plan past (step ∷ rest)) p e st
+right_from plan past rest step stages p e st same h = subst (λ l. EntersAs plan (left_in plan past step rest l) p e st) (sym same) h
 
 -- ---- a move
 
@@ -277,7 +281,7 @@ stages_of_inspection plan past site turn at =
     ∙ inspection_from_first (loop_at (scene_in plan) past site turn)
 
 inspection_comes : (plan : RunPlan) (past rest : List Step) (number site : ℕ) (turn : LoopTurn) (p left : ℕ) (st : NodeState)
-    → IsNext plan past (Forall site turn ∷ rest) p left st → number ≡ length past → IsLoopAt (scene_in plan) past site turn true
+    → ComesNext plan past (Forall site turn ∷ rest) p left st → number ≡ length past → IsLoopAt (scene_in plan) past site turn true
     → IsComing plan past (Forall site turn) rest (stage.InLoop (first_phase (loop_at (scene_in plan) past site turn)))
     (stages_behind (loop_at (scene_in plan) past site turn) (first_phase (loop_at (scene_in plan) past site turn))) p left
     (state_noted st number site)
@@ -286,7 +290,8 @@ inspection_comes plan past rest number site turn p left st next numbered at =
     let c = plan.checked in
     let f = loop_at s past site turn in
     let come = next.come in
-    let noted : st.inspected ++ pos number ∷ [] ≡ map pos (inspecting_of c (Forall site turn ∷ past))
+    let t = come.stands in
+    let noted_if : st.inspected ++ pos number ∷ [] ≡ map pos (inspecting_of c (Forall site turn ∷ past))
     = ap (λ l. l ++ pos number ∷ []) come.inspected ∙ ap (λ n. map pos (inspecting_of c past) ++ pos n ∷ []) numbered
     ∙ sym (map_append (inspecting_of c past) (length past ∷ []))
     ∙ ap (λ b. map pos (inspecting_of c past ++ (if b then length past ∷ [] else []))) (sym at.inspects) in
@@ -298,17 +303,17 @@ inspection_comes plan past rest number site turn p left st next numbered at =
           (stages_of_inspection plan past site turn at);
       knows = record {
         stands = record {
-          parts = come.stands.parts;
-          elements = come.stands.elements;
-          records = come.stands.records;
-          pages = come.stands.pages;
-          counts = come.stands.counts;
-          places = come.stands.places;
+          parts = t.parts;
+          elements = t.elements;
+          records = t.records;
+          pages = t.pages;
+          counts = t.counts;
+          places = t.places;
         };
         keeps = inspection_begins s (run_in plan) past site turn (first_phase f) p st.holdings.tables st.holdings.tables st.holdings.kept
             at.inspects
             (not_executing (asks_places f Indexes) (has_indexes f)) (λ k other steps t owners store q x h. h) come.keeps;
-        inspected = noted;
+        inspected = noted_if;
         text = come.text;
         refused = come.refused;
         sized = come.sized;
@@ -325,7 +330,7 @@ noted_at st e number site = record st {
 abbrev entered_with : NodeState → Entered → Bool → NodeState
 entered_with st e b = record st {
   at = e.at;
-  inspected = noted b e.at.execution st.inspected;
+  inspected = noted_if b e.at.execution st.inspected;
   holdings = record st.holdings { kept = if b then slice_set st.holdings.kept e.at.site no_kept else st.holdings.kept };
 }
 
@@ -347,7 +352,7 @@ EntersInspection session me number site i parts pages sizes left e =
     me left st
     → GoesOnInspecting plan past site turn present me st.holdings.tables i → parts ≡ st.holdings.parts → pages ≡ st.holdings.pages
     → KnowsLengths plan past (Forall site turn) (stage.InLoop present) me sizes
-    → IsRight plan (left_in plan past (Forall site turn) rest
+    → EntersAs plan (left_in plan past (Forall site turn) rest
     (stage.InLoop present ∷ stages_behind (loop_at (scene_in plan) past site turn) present)) me e st
 
 -- a new inspection of this loop
@@ -384,17 +389,17 @@ pub begin_is_right : (session : Session) (b : Between) (pages : List (Option Pag
     → IsNew i f b.me → IsPlacedAt number site e → EntersInspection session b.me number site i b.parts.now pages [] left e
     → (plan : RunPlan) (past rest : List Step) (step : Step) (st : NodeState) → IsRunPlan plan → session ≡ session_in plan
     → number ≡ length past → site ≡ site_of step
-    → IsHere plan b (held_of st) → pages ≡ st.holdings.pages → IsNext plan past (step ∷ rest) b.me left st
+    → IsHere plan b (held_of st) → pages ≡ st.holdings.pages → ComesNext plan past (step ∷ rest) b.me left st
     → BeginsInspection (scene_in plan) past step f
-    → IsRight plan (left_from plan past (step ∷ rest)) b.me (with_begin e) st
+    → EntersAs plan (left_from plan past (step ∷ rest)) b.me (with_begin e) st
 begin_is_right session b pages number site f left i e new placed enters plan past rest step st known same numbered named here paged next
     begins =
     let s = scene_in plan in
     let loop = loop_step s past step site true named begins.loop in
     let owned = begins.owners in
     let facts : f ≡ loop_at s past site loop.turn = begins.facts ∙ facts_same s past step site begins.loop loop in
-    let later : IsNext plan past (Forall site loop.turn ∷ rest) b.me left st =
-    subst (λ (x : Step). IsNext plan past (x ∷ rest) b.me left st) loop.is next in
+    let later : ComesNext plan past (Forall site loop.turn ∷ rest) b.me left st =
+    subst (λ (x : Step). ComesNext plan past (x ∷ rest) b.me left st) loop.is next in
     let present = first_phase (loop_at s past site loop.turn) in
     let goes_on : GoesOnInspecting plan past site loop.turn present b.me st.holdings.tables i = record {
       phase_is = new.phase_is ∙ ap (λ x. Some (first_phase x)) facts;
@@ -410,12 +415,12 @@ begin_is_right session b pages number site f left i e new placed enters plan pas
     (free_first (asks_places (loop_at s past site loop.turn) Indexes) (has_indexes (loop_at s past site loop.turn)))) in
     let phases = left_in plan past (Forall site loop.turn) rest (stage.InLoop present ∷ stages_behind (loop_at s past site loop.turn)
     present) in
-    let begun : IsRight plan phases b.me (with_begin e) st = record {
+    let begun : EntersAs plan phases b.me (with_begin e) st = record {
       face = right.face;
       holds = subst (λ x. HoldsAt plan phases b.me x) (same_state st e number site placed.begins placed.execution placed.site_is)
           right.holds;
     } in
-    subst (λ (x : Step). IsRight plan (left_from plan past (x ∷ rest)) b.me (with_begin e) st) (sym loop.is)
+    subst (λ (x : Step). EntersAs plan (left_from plan past (x ∷ rest)) b.me (with_begin e) st) (sym loop.is)
     (right_from plan past rest (Forall site loop.turn) (stage.InLoop present ∷ stages_behind (loop_at s past site loop.turn) present) b.me
     (with_begin e) st
     (stages_of_inspection plan past site loop.turn loop.at) begun)
@@ -435,7 +440,7 @@ EntersGather session me number site prepared parts left e =
     → is_empty_turn turn ≡ false → prepared_in st.holdings.kept site ≡ Some prepared
     → CanExecute (scene_in plan) past site turn me st.holdings.tables prepared
     → parts ≡ st.holdings.parts
-    → IsRight plan (left_in plan past (Forall site turn) rest (stage.InLoop phase.Gather ∷ stage.InLoop phase.Scatter ∷ [])) me e st
+    → EntersAs plan (left_in plan past (Forall site turn) rest (stage.InLoop phase.Gather ∷ stage.InLoop phase.Scatter ∷ [])) me e st
 
 -- what is kept is there
 pub record IsReused (plan : RunPlan) (past rest : List Step) (step : Step) (b : Between) (site left : ℕ) (st : NodeState) : Type 0 where
@@ -447,13 +452,13 @@ pub record IsReused (plan : RunPlan) (past rest : List Step) (step : Step) (b : 
 
 pub is_reused : (plan : RunPlan) (past rest : List Step) (step : Step) (b : Between) (site left : ℕ) (st : NodeState) → IsRunPlan plan
     → site ≡ site_of step
-    → IsHere plan b (held_of st) → IsNext plan past (step ∷ rest) b.me left st → BeginsLoop (scene_in plan) past step false
+    → IsHere plan b (held_of st) → ComesNext plan past (step ∷ rest) b.me left st → BeginsLoop (scene_in plan) past step false
     → IsReused plan past rest step b site left st
 is_reused plan past rest step b site left st known named here next begins =
     let s = scene_in plan in
     let loop = loop_step s past step site false named begins in
-    let later : IsNext plan past (Forall site loop.turn ∷ rest) b.me left st =
-    subst (λ (x : Step). IsNext plan past (x ∷ rest) b.me left st) loop.is next in
+    let later : ComesNext plan past (Forall site loop.turn ∷ rest) b.me left st =
+    subst (λ (x : Step). ComesNext plan past (x ∷ rest) b.me left st) loop.is next in
     let reuse = can_reuse plan past rest site loop.turn b.me (held_of st) known later.come loop.at in
     let stages : stages_in plan past (Forall site loop.turn) ≡ stage.InLoop phase.Gather ∷ stage.InLoop phase.Scatter ∷ []
     = (stages_are_known plan past).loops site loop.turn loop.at.some ∙ ap (loop_stages (loop_at s past site loop.turn)) loop.at.inspects in
@@ -473,13 +478,13 @@ pub execute_is_right : (session : Session) (b : Between) (number site : ℕ) (pr
     → prepared_in b.kept.now site ≡ Some prepared → EntersGather session b.me number site prepared b.parts.now left e
     → (plan : RunPlan) (past rest : List Step) (step : Step) (st : NodeState) → IsRunPlan plan → session ≡ session_in plan
     → number ≡ length past → site ≡ site_of step
-    → IsHere plan b (held_of st) → IsNext plan past (step ∷ rest) b.me left st → BeginsLoop (scene_in plan) past step false
-    → IsRight plan (left_from plan past (step ∷ rest)) b.me e st
+    → IsHere plan b (held_of st) → ComesNext plan past (step ∷ rest) b.me left st → BeginsLoop (scene_in plan) past step false
+    → EntersAs plan (left_from plan past (step ∷ rest)) b.me e st
 execute_is_right session b number site prepared left e found enters plan past rest step st known same numbered named here next begins =
     let s = scene_in plan in
     let it = is_reused plan past rest step b site left st known named here next begins in
     let equal : it.reuse.prepared ≡ prepared = some_same it.reuse.prepared prepared (sym it.there ∙ found) in
-    subst (λ (x : Step). IsRight plan (left_from plan past (x ∷ rest)) b.me e st) (sym it.loop.is)
+    subst (λ (x : Step). EntersAs plan (left_from plan past (x ∷ rest)) b.me e st) (sym it.loop.is)
     (right_from plan past rest (Forall site it.loop.turn) (stage.InLoop phase.Gather ∷ stage.InLoop phase.Scatter ∷ []) b.me e st it.stages
     (enters plan past rest it.loop.turn st known same numbered it.coming it.loop.at.some (it.reuse.is ∙ ap Some equal)
     (subst (λ x. CanExecute s past site it.loop.turn b.me st.holdings.tables x) equal it.reuse.can) (sym here.parts)))
@@ -491,8 +496,8 @@ no_some x e = cc
 pub nothing_kept : (session : Session) (b : Between) (number site left : ℕ) (e : Entered) → prepared_in b.kept.now site ≡ None
     → (plan : RunPlan) (past rest : List Step) (step : Step) (st : NodeState) → IsRunPlan plan → session ≡ session_in plan
     → number ≡ length past → site ≡ site_of step
-    → IsHere plan b (held_of st) → IsNext plan past (step ∷ rest) b.me left st → BeginsLoop (scene_in plan) past step false
-    → IsRight plan (left_from plan past (step ∷ rest)) b.me e st
+    → IsHere plan b (held_of st) → ComesNext plan past (step ∷ rest) b.me left st → BeginsLoop (scene_in plan) past step false
+    → EntersAs plan (left_from plan past (step ∷ rest)) b.me e st
 nothing_kept session b number site left e none plan past rest step st known same numbered named here next begins =
     absurd (no_some (is_reused plan past rest step b site left st known named here next begins).reuse.prepared
     (sym none ∙ (is_reused plan past rest step b site left st known named here next begins).there))
@@ -501,15 +506,21 @@ nothing_kept session b number site left e none plan past rest step st known same
 
 pub print_begins : (plan : RunPlan) (past rest : List Step) (step : Step) (array p left : ℕ) (e : Entered) (st : NodeState)
     → step ≡ Print array
-    → IsNext plan past (step ∷ rest) p left st
+    → ComesNext plan past (step ∷ rest) p left st
     → (IsComing plan past (Print array) rest stage.Print [] p left st
-    → IsRight plan (left_in plan past (Print array) rest (stage.Print ∷ [])) p e st)
-    → IsRight plan (left_from plan past (step ∷ rest)) p e st
+    → EntersAs plan (left_in plan past (Print array) rest (stage.Print ∷ [])) p e st)
+    → EntersAs plan (left_from plan past (step ∷ rest)) p e st
 print_begins plan past rest step array p left e st is next enters =
-    subst (λ (x : Step). IsRight plan (left_from plan past (x ∷ rest)) p e st) (sym is)
+    subst (λ (x : Step). EntersAs plan (left_from plan past (x ∷ rest)) p e st) (sym is)
     (right_from plan past rest (Print array) (stage.Print ∷ []) p e st refl
-    (enters (coming_of plan past rest (Print array) stage.Print [] p left st (subst (λ (x : Step). IsNext plan past (x ∷ rest) p left st)
+    (enters (coming_of plan past rest (Print array) stage.Print [] p left st (subst (λ (x : Step). ComesNext plan past (x ∷ rest) p left st)
     is next) refl refl refl)))
+
+-- what is begun is told of by its kind
+pub begun_as : (a : Ahead) (b kind : Begun) (r : Result Entered Memory) → b ≡ kind
+    → IfOk r (EntersStep a (λ s past step. IsBegun s past step a.between.now.me kind))
+    → IfOk r (EntersStep a (λ s past step. IsBegun s past step a.between.now.me b))
+begun_as a b kind r is h = subst (λ x. IfOk r (EntersStep a (λ s past step. IsBegun s past step a.between.now.me x))) (sym is) h
 
 abbrev pub EntersMove : Session → ℕ → ℕ → Moving → List ℕ → ℕ → Entered → Type 0
 EntersMove session me number m sizes left e =
@@ -518,13 +529,13 @@ EntersMove session me number m sizes left e =
     → number ≡ length past → IsComing plan past (Distribute m.share.decomposition form) rest now more me left st
     → GoesOnMoving plan past m.share.decomposition form now more me m
     → KnowsLengths plan past (Distribute m.share.decomposition form) now me sizes
-    → IsRight plan (left_in plan past (Distribute m.share.decomposition form) rest (now ∷ more)) me e st
+    → EntersAs plan (left_in plan past (Distribute m.share.decomposition form) rest (now ∷ more)) me e st
 
 pub move_begins : (session : Session) (me number : ℕ) (m : Moving) (left : ℕ) (e : Entered) → EntersMove session me number m [] left e
     → (plan : RunPlan) (past rest : List Step) (step : Step) (st : NodeState) → IsRunPlan plan → session ≡ session_in plan
     → number ≡ length past
-    → IsNext plan past (step ∷ rest) me left st → BeginsMove (scene_in plan) past step me m
-    → IsRight plan (left_from plan past (step ∷ rest)) me e st
+    → ComesNext plan past (step ∷ rest) me left st → BeginsMove (scene_in plan) past step me m
+    → EntersAs plan (left_from plan past (step ∷ rest)) me e st
 move_begins session me number m left e enters plan past rest step st known same numbered next begins =
     let s = scene_in plan in
     let d = m.share.decomposition in
@@ -543,32 +554,32 @@ move_begins session me number m left e enters plan past rest step st known same 
       by = begins.begins.given;
       moving = subst (λ k. IsMoving m s (owners_at s past) (store_at s past) (owners_after s past k form)) equal begins.begins.moving;
     } in
-    subst (λ (x : Step). IsRight plan (left_from plan past (x ∷ rest)) me e st) (sym is)
+    subst (λ (x : Step). EntersAs plan (left_from plan past (x ∷ rest)) me e st) (sym is)
     (right_from plan past rest (Distribute d form) (first.first ∷ first.more) me e st stages
     (enters plan past rest form first.first first.more st known same numbered
     (coming_of plan past rest (Distribute d form) first.first first.more me left st
-    (subst (λ (x : Step). IsNext plan past (x ∷ rest) me left st) is next) stages first.plain refl)
+    (subst (λ (x : Step). ComesNext plan past (x ∷ rest) me left st) is next) stages first.plain refl)
     goes_on (knows_free plan past (Distribute d form) first.first me [] first.free)))
 
 -- ---- behind the steps
 
 -- the next step is entered
 pub next_enters : (plan : RunPlan) (past rest : List Step) (p left : ℕ) (st : NodeState) (number site : ℕ) (x : Begun) (e : Entered)
-    → IsNext plan past rest p left st
+    → ComesNext plan past rest p left st
     → FindsStep plan past rest p (held_of st) number site x
     → ((before behind : List Step) (step : Step) → number ≡ length before → site ≡ site_of step
-    → IsNext plan before (step ∷ behind) p left st
-    → IsBegun (scene_in plan) before step p x → IsRight plan (left_from plan before (step ∷ behind)) p e st)
-    → IsRight plan (left_from plan past rest) p e st
+    → ComesNext plan before (step ∷ behind) p left st
+    → IsBegun (scene_in plan) before step p x → EntersAs plan (left_from plan before (step ∷ behind)) p e st)
+    → EntersAs plan (left_from plan past rest) p e st
 next_enters plan past rest p left st number site x e next found enters =
-    subst (λ l. IsRight plan l p e st) (sym found.left)
+    subst (λ l. EntersAs plan l p e st) (sym found.left)
     (enters found.before found.behind found.step found.number_is found.site_is
     (record { session = next.session; node = next.node; come = found.come; left_is = next.left_is ∙ ap length found.whole }) found.begins)
 
-pub none_found : (plan : RunPlan) (past rest : List Step) (p left : ℕ) (st : NodeState) (e : Entered) → IsNext plan past rest p left st
+pub none_found : (plan : RunPlan) (past rest : List Step) (p left : ℕ) (st : NodeState) (e : Entered) → ComesNext plan past rest p left st
     → FindsNone plan past rest p (held_of st)
-    → (IsBehindSteps plan 0 p left st → IsRight plan (outputs_left plan (completed_of (run_in plan)) 0 plan.checked.outputs) p e st)
-    → IsRight plan (left_from plan past rest) p e st
+    → (IsBehindSteps plan 0 p left st → EntersAs plan (outputs_left plan (completed_of (run_in plan)) 0 plan.checked.outputs) p e st)
+    → EntersAs plan (left_from plan past rest) p e st
 none_found plan past rest p left st e next found enters =
     let s = scene_in plan in
     let run = run_in plan in
@@ -587,8 +598,8 @@ none_found plan past rest p left st e next found enters =
       refused = found.come.refused ∙ sym behind.refused;
       last = behind.last;
     } in
-    subst (λ l. IsRight plan l p e st) (sym (found.left ∙ behind.left))
-    (subst (λ past. IsRight plan (outputs_left plan past 0 plan.checked.outputs) p e st) behind.completed
+    subst (λ l. EntersAs plan l p e st) (sym (found.left ∙ behind.left))
+    (subst (λ past. EntersAs plan (outputs_left plan past 0 plan.checked.outputs) p e st) behind.completed
     (enters (record {
       session = next.session;
       within = nought_least (length plan.checked.outputs);

@@ -1,15 +1,11 @@
 -- The stages of a FORALL that follow a phase of its inspection.
-use Rattle.std.specs.Prelude.{◌≡◌, refl, ℕ, ◌+◌, ◌&&◌, ◌||◌, Bool, true, false, if◌then◌else◌, List, [], ◌∷◌, ◌++◌, map, Some, None}
-use Rattle.std.specs.List.{enumerate_from, list_any}
+use Rattle.std.specs.Prelude.{◌≡◌, refl, ◌+◌, Bool, true, false, if◌then◌else◌, List, [], ◌∷◌, ◌++◌, map, Some, None}
 use Rattle.std.proofs.Common.{ap, subst}
-use Rattle.fd_words.specs.Roles.{is_index}
-use Rattle.fd_program.specs.declared.reference.Reference.{Reference}
 use Rattle.plan_run.specs.Phases.{loop_stages}
 use Rattle.chaos_inspect.specs.PhaseLaws.{indexes_from}
 use Rattle.chaos_inspect.specs.Inspecting.{first_phase, has_indexes, phase_after, phase_first}
 use Rattle.fd_program.specs.declared.loop_facts.LoopFacts.{LoopFacts}
-use Rattle.plan_loop.specs.LoopLetters.{asking_phases, asks_places, executor_phases, is_for, phases_from_vote}
-use Rattle.fd_program.specs.Met.{is_map, layout_for}
+use Rattle.plan_loop.specs.LoopLetters.{asking_phases, asks_places, executor_phases, phases_from_vote}
 use Rattle.plan_loop.specs.declared.loop_phase.Asking.TheVariants.{Indexes, Homes, References}
 use Rattle.plan_loop.specs.declared.loop_phase.LoopPhase.{LoopPhase}
 use Rattle.plan_loop.specs.declared.loop_phase.LoopPhase.TheVariants as phase
@@ -84,17 +80,13 @@ phases_go_on f phase.Scatter next e = cc
 
 -- none is behind the last
 pub phases_end : (f : LoopFacts) (l : LoopPhase) → phase_after f l ≡ None → phases_behind f l ≡ []
-phases_end f (phase.DerefAsk asking) e = cc
 phases_end f (phase.DerefAnswer Indexes) e = cc
 phases_end f (phase.DerefAnswer Homes) e = cc
 phases_end f (phase.DerefAnswer References) e = cc
-phases_end f phase.IndexAsk e = cc
-phases_end f phase.IndexValues e = cc
-phases_end f phase.Vote e = cc
-phases_end f phase.Iterations e = cc
 phases_end f phase.ScheduleAsk e = refl
 phases_end f phase.Gather e = refl
 phases_end f phase.Scatter e = refl
+phases_end f l e = cc
 
 pub stages_go_on : (f : LoopFacts) (l next : LoopPhase) → phase_after f l ≡ Some next → stages_behind f l ≡ stage.InLoop next
     ∷ stages_behind f next

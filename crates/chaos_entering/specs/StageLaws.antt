@@ -1,7 +1,6 @@
 -- A phase that is entered with the right lists and lengths is the one that comes.
-use Rattle.std.specs.Prelude.{◌≡◌, refl, ℕ, zero, suc, ◌+◌, ◌<◌, ◌≤◌, ◌^◌, ℤ, Bool, true, false, List, [], ◌∷◌, length, map, is_some}
-use Rattle.std.specs.Prelude.{slice_get, unwrap_or, vec_capacity}
-use Rattle.std.specs.List.{range_with_len}
+use Rattle.std.specs.Prelude.{◌≡◌, refl, ℕ, ◌+◌, ◌<◌, ◌≤◌, ◌^◌, ℤ, Bool, true, false, List, [], ◌∷◌, length, map, is_some}
+use Rattle.std.specs.Prelude.{vec_capacity}
 use Rattle.std.proofs.Common.{ap, sym, subst, ◌∙◌, arith, add-one}
 use Rattle.bsp_core.specs.Views.{Ascends, Face, nodes_in}
 use Rattle.fd_words.specs.Lists.{list_at}
@@ -19,13 +18,13 @@ use Rattle.plan_run.specs.RowLaws.{not_sent}
 use Rattle.plan_run.specs.Rows.{RunPlan, face_left, run_in, scene_in}
 use Rattle.plan_run.specs.declared.stage.Stage.{Stage}
 use Rattle.plan_run.specs.declared.stage.Stage.TheVariants as stage
-use Rattle.plan_walk.specs.LetterLaws.{AreCounted, AreSent, all_lists_are_sent, naming_at, rows_are_made}
+use Rattle.plan_walk.specs.LetterLaws.{AreCounted, AreSent, all_lists_are_sent, row_below, naming_at, rows_are_made}
 use Rattle.plan_walk.specs.Letters.{letter_in, number_in, wanted_in}
 use Rattle.plan_walk.specs.Places.{left_in, present_phase, whole_in, whole_left}
 use Rattle.plan_walk.specs.declared.stages.Naming.{Naming}
-use Rattle.chaos_entering.specs.Coming.{CanStand, IsComing, IsSoundActivity, entered_state, face_of}
+use Rattle.chaos_entering.specs.Coming.{CanStand, IsComing, IsSoundActivity, entered_state, face_entered}
 use Rattle.chaos_entering.specs.Entering.{IsStaged, group_in, naming_in}
-use Rattle.chaos_entering.specs.Standing.{HasSizes, IsInStep, session_in}
+use Rattle.chaos_entering.specs.Standing.{HasSizes, StandsInStep, session_in}
 use Rattle.chaos_entering.specs.State.{NodeState}
 use Rattle.chaos_entering.specs.declared.activity.Activity.{Activity}
 use Rattle.chaos_entering.specs.declared.activity.At.{At}
@@ -39,9 +38,9 @@ pub record IsStage (plan : RunPlan) (past : List Step) (step : Step) (rest : Lis
   pub activity_is : e.at.activity ≡ activity
   pub site_is : e.at.site ≡ site_of step
   pub kept : (entered_state st e).holdings ≡ st.holdings
-  pub face : face_of p plan.nodes e ≡ face_left (scene_in plan) (left_in plan past step rest (stage ∷ more)) p
+  pub face : face_entered p plan.nodes e ≡ face_left (scene_in plan) (left_in plan past step rest (stage ∷ more)) p
   pub session : (entered_state st e).session ≡ session_in plan
-  pub in_step : IsInStep plan (left_in plan past step rest (stage ∷ more)) past step rest stage more p (entered_state st e)
+  pub in_step : StandsInStep plan (left_in plan past step rest (stage ∷ more)) past step rest stage more p (entered_state st e)
   pub sizes : HasSizes plan past step stage p (entered_state st e)
 
 -- ---- cases
@@ -72,11 +71,8 @@ same_group c step (stage.InLoop phase.Scatter) = refl
 
 -- ---- lists
 
-from_nought : (p : ℕ) → 0 + p ≡ p
-from_nought p = omega arith
-
-all_below : (n : ℕ) → 0 + n ≤ n
-all_below n = omega arith
+from_zero : (n : ℕ) → 0 + n ≤ n
+from_zero n = omega arith
 
 with_none : (got : List Letter) (due room : ℕ) → got ≡ [] → due ≤ room → length got + due ≤ room
 with_none got due room e h = let none : length got ≡ 0 = ap (λ (l : List Letter). length l) e in omega (arith, none, h)
@@ -84,11 +80,6 @@ with_none got due room e h = let none : length got ≡ 0 = ap (λ (l : List Lett
 not_both : {A : Type 0} (b : Bool) → b ≡ true → b ≡ false → A
 not_both true s t = cc
 not_both false s t = cc
-
-map_get : {A : Type 0} (x : ℕ → List A) (q low k : ℕ) → q < k → unwrap_or (slice_get (map x (range_with_len low k)) q) [] ≡ x (low + q)
-map_get x q low zero l = absurd (omega (arith, l))
-map_get x zero low (suc k) l = let e : low ≡ low + 0 = omega arith in ap x e
-map_get x (suc q) low (suc k) l = map_get x q (low + 1) k (omega (arith, l)) ∙ ap x (let e : low + 1 + q ≡ low + suc q = omega arith in e)
 
 map_length : (x : ℕ → List ℤ) (qs : List ℕ) → map length (map x qs) ≡ map (λ q. length (x q)) qs
 map_length x [] = refl
@@ -112,36 +103,36 @@ abbrev state_if : NodeState → Entered → Bool → NodeState
 state_if st e b = entered_state st (record e { begins = b })
 
 -- only its place is new
-stands_at : (n : Naming) (me nodes : ℕ) (activity : Activity) (lists : List (List ℤ)) (counts : List ℕ) (left : ℕ) (e : Entered)
+stands_staged : (n : Naming) (me nodes : ℕ) (activity : Activity) (lists : List (List ℤ)) (counts : List ℕ) (left : ℕ) (e : Entered)
     (st : NodeState)
     → IsStaged n me nodes activity lists counts left e → entered_state st e ≡ standing_at st (at_in n activity lists me)
-stands_at n me nodes activity lists counts left e st h = ap (state_if st e) h.begins ∙ ap (standing_at st) h.at
+stands_staged n me nodes activity lists counts left e st h = ap (state_if st e) h.begins ∙ ap (standing_at st) h.at
 
-abbrev face_with : ℕ → ℕ → ℕ → List (ℕ × Letter) → List (ℕ × Wanted) → List Letter → Face
-face_with me nodes left out due got = record { me = me; count = nodes; left = left; out = out; due = due; got = got }
+abbrev face_having : ℕ → ℕ → ℕ → List (ℕ × Letter) → List (ℕ × Wanted) → List Letter → Face
+face_having me nodes left out due got = record { me = me; count = nodes; left = left; out = out; due = due; got = got }
 
 face_staged : (n : Naming) (me nodes : ℕ) (activity : Activity) (lists : List (List ℤ)) (counts : List ℕ) (left : ℕ) (e : Entered)
     → IsStaged n me nodes activity lists counts left e
-    → face_of me nodes e ≡ face_with me nodes left (picked (λ q. letter_in n (list_at lists q)) (λ q. is_sent n.stage me q) 0 nodes)
+    → face_entered me nodes e ≡ face_having me nodes left (picked (λ q. letter_in n (list_at lists q)) (λ q. is_sent n.stage me q) 0 nodes)
     (picked (λ q. wanted_in n (number_in counts q)) (λ q. is_sent n.stage q me) 0 nodes) []
 face_staged n me nodes activity lists counts left e h =
-    ap (λ left. face_with me nodes left e.out.items e.due.items e.got.items) h.left_is
-    ∙ ap (λ out. face_with me nodes left out e.due.items e.got.items) h.posted.out
-    ∙ ap (λ due. face_with me nodes left (picked (λ q. letter_in n (list_at lists q)) (λ q. is_sent n.stage me q) 0 nodes) due
+    ap (λ left. face_having me nodes left e.out.items e.due.items e.got.items) h.left_is
+    ∙ ap (λ out. face_having me nodes left out e.due.items e.got.items) h.posted.out
+    ∙ ap (λ due. face_having me nodes left (picked (λ q. letter_in n (list_at lists q)) (λ q. is_sent n.stage me q) 0 nodes) due
     e.got.items) h.posted.due
-    ∙ ap (face_with me nodes left (picked (λ q. letter_in n (list_at lists q)) (λ q. is_sent n.stage me q) 0 nodes)
+    ∙ ap (face_having me nodes left (picked (λ q. letter_in n (list_at lists q)) (λ q. is_sent n.stage me q) 0 nodes)
     (picked (λ q. wanted_in n (number_in counts q)) (λ q. is_sent n.stage q me) 0 nodes)) h.posted.got
 
 abbrev row_by : Scene → ℕ → List (List ℤ) → List ℕ → Naming → ℕ → Face
 row_by s p lists counts n left =
-    face_with p s.nodes left (picked (λ q. letter_in n (list_at lists q)) (λ q. is_sent n.stage p q) 0 s.nodes)
+    face_having p s.nodes left (picked (λ q. letter_in n (list_at lists q)) (λ q. is_sent n.stage p q) 0 s.nodes)
     (picked (λ q. wanted_in n (number_in counts q)) (λ q. is_sent n.stage q p) 0 s.nodes) []
 
 -- it is the face of the phase
 staged_face : (s : Scene) (f : Phase) (later : List Phase) (past : List Step) (cut : Bool) (n : Naming) (p : ℕ) (activity : Activity)
     (lists : List (List ℤ)) (counts : List ℕ) (left : ℕ) (e : Entered)
     → naming_at s f ≡ n → left ≡ f.left → AreSent s f p lists → AreCounted s f p counts → IsStaged n p s.nodes activity lists counts left e
-    → face_of p s.nodes e ≡ face_left s (cut_phases s.checked (f ∷ later) past cut) p
+    → face_entered p s.nodes e ≡ face_left s (cut_phases s.checked (f ∷ later) past cut) p
 staged_face s f later past cut n p activity lists counts left e name many sent counted staged =
     face_staged n p s.nodes activity lists counts left e staged ∙ ap (row_by s p lists counts n) many
     ∙ ap (λ m. row_by s p lists counts m f.left) (sym name)
@@ -166,9 +157,9 @@ stage_comes plan past step rest stage more p left st activity lists counts e com
     let named = naming_in plan.checked stage (length past) (site_of step) in
     let x : ℕ → List ℤ = λ q. numbers_at s past step stage p q in
     let at = at_in named activity lists p in
-    let stood : entered_state st e ≡ standing_at st at = stands_at named p plan.nodes activity lists counts left e st staged in
+    let stood : entered_state st e ≡ standing_at st at = stands_staged named p plan.nodes activity lists counts left e st staged in
     let name : naming_at s f ≡ named = ap (λ g. with_group named g) (sym (same_group plan.checked step stage)) in
-    let own : list_at lists p ≡ x p = ap (λ l. list_at l p) lists_are ∙ map_get x p 0 plan.nodes come.node ∙ ap x (from_nought p) in
+    let own : list_at lists p ≡ x p = ap (λ l. list_at l p) lists_are ∙ row_below x [] plan.nodes p come.node in
     let sizes : map length lists ≡ map (λ q. length (x q)) (below plan.nodes) = ap (map length) lists_are
     ∙ map_length x (below plan.nodes) in
     let sent = all_lists_are_sent s f p lists lists_are in
@@ -181,7 +172,7 @@ stage_comes plan past step rest stage more p left st activity lists counts e com
           activity lists counts left e
           name many sent counted staged;
       session = ap (λ (t : NodeState). t.session) stood ∙ come.session;
-      in_step = subst (IsInStep plan (left_in plan past step rest (stage ∷ more)) past step rest stage more p) (sym stood) (record {
+      in_step = subst (StandsInStep plan (left_in plan past step rest (stage ∷ more)) past step rest stage more p) (sym stood) (record {
         places = come.places;
         phases_are = refl;
         execution = refl;
@@ -197,10 +188,10 @@ pub staged_stands : (n : Naming) (me nodes : ℕ) (activity : Activity) (lists :
 staged_stands n me nodes activity lists counts left e small sound h = record {
   left = subst (λ k. k < 2 ^ 31) (sym h.left_is) small;
   out = subst (λ (l : List (ℕ × Letter)). Ascends me nodes 0 (nodes_in l)) (sym h.posted.out)
-      (picked_ascends (λ q. letter_in n (list_at lists q)) (λ q. is_sent n.stage me q) me nodes 0 nodes (all_below nodes)
+      (picked_ascends (λ q. letter_in n (list_at lists q)) (λ q. is_sent n.stage me q) me nodes 0 nodes (from_zero nodes)
       (not_sent n.stage me));
   due = subst (λ (l : List (ℕ × Wanted)). Ascends me nodes 0 (nodes_in l)) (sym h.posted.due)
-      (picked_ascends (λ q. wanted_in n (number_in counts q)) (λ q. is_sent n.stage q me) me nodes 0 nodes (all_below nodes)
+      (picked_ascends (λ q. wanted_in n (number_in counts q)) (λ q. is_sent n.stage q me) me nodes 0 nodes (from_zero nodes)
       (not_sent n.stage me));
   room = with_none e.got.items (length e.due.items) (vec_capacity e.got) h.posted.got h.posted.room;
   number = λ begins. not_both e.begins begins h.begins;

@@ -31,7 +31,7 @@ use Rattle.chaos_moving.specs.Stages.{left_in as stages_left}
 use Rattle.chaos_moving.specs.declared.moving.Moving.{Moving}
 use Rattle.chaos_executing.specs.InRun.{CanExecute, IsExecuting}
 use Rattle.chaos_executing.specs.declared.executing.Executing.{Executing}
-use Rattle.plan_walk.specs.Places.{StandsBefore, left_in, outputs_left}
+use Rattle.plan_walk.specs.Places.{StandsBetween, left_in, outputs_left}
 use Rattle.chaos_entering.specs.Behind.{stages_behind}
 use Rattle.chaos_holdings.specs.Keeping.{prepared_in}
 use Rattle.chaos_entering.specs.State.{NodeState, held_of}
@@ -47,7 +47,7 @@ session_in plan = record { checked = plan.checked; trace = trace_of plan.checked
 
 -- the node has come to `rest`: what it holds behind the steps `past`
 pub record HasCome (plan : RunPlan) (past rest : List Step) (p : ℕ) (v : Held) : Type 0 where
-  pub places : StandsBefore plan past rest
+  pub places : StandsBetween plan past rest
   pub stands : Stands (scene_in plan) past p v
   pub keeps : EachLoop plan.checked (λ k. KeepsLoop (scene_in plan) past k p v.tables) v.kept
   pub inspected : v.inspected ≡ map pos (inspecting_of plan.checked past)
@@ -58,7 +58,7 @@ pub record HasCome (plan : RunPlan) (past rest : List Step) (p : ℕ) (v : Held)
 -- ---- in a stage of a step
 
 -- what a node holds as the stage begins, but for its list for itself and what is in hand
-pub record Knows (s : Scene) (run : Run) (past : List Step) (step : Step) (stage : Stage) (p : ℕ) (v : Held) : Type 0 where
+pub record KnowsInStep (s : Scene) (run : Run) (past : List Step) (step : Step) (stage : Stage) (p : ℕ) (v : Held) : Type 0 where
   pub stands : Stands s past p v
   pub keeps : EachLoop s.checked (KeepsInStep s run past step stage p v.tables) v.kept
   pub inspected : v.inspected ≡ inspected_at s run past step stage
@@ -67,14 +67,14 @@ pub record Knows (s : Scene) (run : Run) (past : List Step) (step : Step) (stage
   pub sized : length v.tables ≡ length s.checked.layouts
 
 -- the node is in this stage of this step, and these stages follow
-pub record IsInStep (plan : RunPlan) (phases : List Phase) (past : List Step) (step : Step) (rest : List Step) (stage : Stage)
+pub record StandsInStep (plan : RunPlan) (phases : List Phase) (past : List Step) (step : Step) (rest : List Step) (stage : Stage)
     (more : List Stage) (p : ℕ) (st : NodeState) : Type 0 where
-  pub places : StandsBefore plan past (step ∷ rest)
+  pub places : StandsBetween plan past (step ∷ rest)
   pub phases_are : phases ≡ left_in plan past step rest (stage ∷ more)
   pub execution : st.at.execution ≡ length past
   pub site : st.at.site ≡ site_of step
   pub own : st.at.own ≡ numbers_at (scene_in plan) past step stage p p
-  pub knows : Knows (scene_in plan) (run_in plan) past step stage p (held_of st)
+  pub knows : KnowsInStep (scene_in plan) (run_in plan) past step stage p (held_of st)
 
 -- how long the lists are that it sends
 abbrev pub HasSizes : RunPlan → List Step → Step → Stage → ℕ → NodeState → Type 0
@@ -84,7 +84,7 @@ HasSizes plan past step stage p st = st.at.sizes ≡ map (λ q. length (numbers_
 pub record IsPrint (plan : RunPlan) (phases : List Phase) (p : ℕ) (st : NodeState) : Type 0 where
   pub past : List Step
   pub rest : List Step
-  pub in_step : IsInStep plan phases past (Print st.at.site) rest stage.Print [] p st
+  pub in_step : StandsInStep plan phases past (Print st.at.site) rest stage.Print [] p st
 
 -- a move on p, where this stage and then these are left
 pub record GoesOnMoving (plan : RunPlan) (past : List Step) (d : ℕ) (form : StepForm) (stage : Stage) (more : List Stage) (p : ℕ)
@@ -104,7 +104,7 @@ pub record IsMove (plan : RunPlan) (phases : List Phase) (p : ℕ) (st : NodeSta
   pub form : StepForm
   pub stage : Stage
   pub more : List Stage
-  pub in_step : IsInStep plan phases past (Distribute st.at.site form) rest stage more p st
+  pub in_step : StandsInStep plan phases past (Distribute st.at.site form) rest stage more p st
   pub sizes : HasSizes plan past (Distribute st.at.site form) stage p st
   pub goes_on : GoesOnMoving plan past st.at.site form stage more p m
 
@@ -124,7 +124,7 @@ pub record IsInspection (plan : RunPlan) (phases : List Phase) (p : ℕ) (st : N
   pub rest : List Step
   pub turn : LoopTurn
   pub present : LoopPhase
-  pub in_step : IsInStep plan phases past (Forall st.at.site turn) rest (stage.InLoop present)
+  pub in_step : StandsInStep plan phases past (Forall st.at.site turn) rest (stage.InLoop present)
       (stages_behind (loop_at (scene_in plan) past st.at.site turn) present) p st
   pub sizes : HasSizes plan past (Forall st.at.site turn) (stage.InLoop present) p st
   pub goes_on : GoesOnInspecting plan past st.at.site turn present p st.holdings.tables i
@@ -135,7 +135,8 @@ pub record IsGather (plan : RunPlan) (phases : List Phase) (p : ℕ) (st : NodeS
   pub rest : List Step
   pub turn : LoopTurn
   pub prepared : Prepared
-  pub in_step : IsInStep plan phases past (Forall st.at.site turn) rest (stage.InLoop phase.Gather) (stage.InLoop phase.Scatter ∷ []) p st
+  pub in_step : StandsInStep plan phases past
+      (Forall st.at.site turn) rest (stage.InLoop phase.Gather) (stage.InLoop phase.Scatter ∷ []) p st
   pub some : is_empty_turn turn ≡ false
   pub kept : prepared_in st.holdings.kept st.at.site ≡ Some prepared
   pub can : CanExecute (scene_in plan) past st.at.site turn p st.holdings.tables prepared
@@ -146,7 +147,7 @@ pub record IsScatter (plan : RunPlan) (phases : List Phase) (p : ℕ) (st : Node
   pub rest : List Step
   pub turn : LoopTurn
   pub prepared : Prepared
-  pub in_step : IsInStep plan phases past (Forall st.at.site turn) rest (stage.InLoop phase.Scatter) [] p st
+  pub in_step : StandsInStep plan phases past (Forall st.at.site turn) rest (stage.InLoop phase.Scatter) [] p st
   pub some : is_empty_turn turn ≡ false
   pub kept : prepared_in st.holdings.kept st.at.site ≡ Some prepared
   pub executing : IsExecuting (scene_in plan) past st.at.site turn p st.holdings.tables prepared x
@@ -173,7 +174,7 @@ pub record IsOutput (plan : RunPlan) (phases : List Phase) (j p : ℕ) (st : Nod
   pub own : st.at.own ≡ numbers_at (scene_in plan) (completed_of (run_in plan)) (Print name.array) (stage.Output j) p p
   pub knows : KnowsBehind (scene_in plan) (run_in plan) (completed_of (run_in plan)) j p (held_of st)
 
-pub record IsOver (plan : RunPlan) (phases : List Phase) (p : ℕ) (st : NodeState) : Type 0 where
+pub record StandsAtEnd (plan : RunPlan) (phases : List Phase) (p : ℕ) (st : NodeState) : Type 0 where
   pub none_left : phases ≡ []
   pub knows : KnowsBehind (scene_in plan) (run_in plan) (completed_of (run_in plan)) (length plan.checked.outputs) p (held_of st)
 
@@ -186,7 +187,7 @@ IsPlace plan phases p st (Moves m) = IsMove plan phases p st m
 IsPlace plan phases p st (Inspecting i) = IsInspection plan phases p st i
 IsPlace plan phases p st Gathering = IsGather plan phases p st
 IsPlace plan phases p st (Scattering x) = IsScatter plan phases p st x
-IsPlace plan phases p st Ended = IsOver plan phases p st
+IsPlace plan phases p st Ended = StandsAtEnd plan phases p st
 
 -- what holds of the state of node p where these phases are left
 pub record HoldsAt (plan : RunPlan) (phases : List Phase) (p : ℕ) (st : NodeState) : Type 0 where

@@ -1,11 +1,9 @@
 ghost use Rattle.std.specs.Prelude.{◌≡◌, ℕ, ℤ, ◌+◌, ◌≤◌, ◌<◌, ◌^◌, ◌∷◌, [], List, drop, false, length, IfOk};
 ghost use Rattle.fd_program.specs.Reports.{completed_of};
-ghost use Rattle.fd_program.specs.declared.trace.Step.{Step as AStep};
 ghost use Rattle.fd_program.specs.declared.trace.Step.TheVariants.{Print};
 ghost use Rattle.plan_run.specs.Rows.{IsRunPlan, RunPlan, run_in};
-ghost use Rattle.plan_run.specs.declared.stage.Stage.TheVariants as stage;
-ghost use Rattle.plan_walk.specs.Places.{left_in, outputs_left};
-ghost use Rattle.chaos_entering.specs.Coming.{CanStand, IsBehindSteps, IsComing, IsRight};
+ghost use Rattle.plan_walk.specs.Places.{outputs_left};
+ghost use Rattle.chaos_entering.specs.Coming.{CanStand, EntersStep, IsBehindSteps, EntersAs};
 ghost use Rattle.chaos_entering.specs.Entering.{ArePosted, IsRows};
 ghost use Rattle.chaos_print.specs.Printing.{rows_held};
 ghost use Rattle.chaos_entering.specs.Standing.{session_in};
@@ -13,6 +11,7 @@ ghost use Rattle.chaos_entering.specs.State.{NodeState};
 ghost use Rattle.chaos_entering.specs.declared.activity.Activity.TheVariants.{Ended};
 
 use crate::activity::{Activity, At};
+use crate::ahead::Ahead;
 use crate::entered::{Entered, Posted, entered_by, post};
 use chaos_holdings::Session;
 use chaos_print::print_rows;
@@ -93,33 +92,27 @@ fn printed(alloc: Global, naming: Naming, activity: Activity, left: u32, rows: R
 }
 
 /// A PRINT.
-pub fn enter_print(
-    alloc: Global,
-    session: &Session,
-    me: u32,
-    execution: u64,
-    array: u32,
-    elements: &NumberLists,
-    parts: &NumberLists,
-    left: u32,
-) -> Result<Entered, Memory>
-    requires left { left < 2 ^ 31 }
-    ensures made { IfOk result (CanStand me session.now.nodes) }
-    ensures falls { IfOk result (λ e. e.left ≤ left) }
-    ensures right { IfOk result (λ e. (plan : RunPlan) (past rest : List AStep) (st : NodeState) → IsRunPlan plan
-        → session.now ≡ session_in plan
-        → execution ≡ length past → IsComing plan past (Print array) rest stage.Print [] me left st
-        → elements.now ≡ st.holdings.elements → parts.now ≡ st.holdings.parts
-        → IsRight plan (left_in plan past (Print array) rest (stage.Print ∷ [])) me e st) }
+pub fn enter_print(ahead: &Ahead, array: u32) -> Result<Entered, Memory>
+    ensures made { IfOk result (CanStand ahead.now.between.now.me ahead.now.session.now.nodes) }
+    ensures falls { IfOk result (λ e. e.left ≤ ahead.now.left) }
+    ensures right { IfOk result (EntersStep ahead.now (λ s past step. step ≡ Print array)) }
 {
     let naming = Naming {
         stage: Stage::Print,
-        execution,
+        execution: ahead.number,
         site: array,
         group: 2,
     };
-    let rows = enter_rows(alloc, session, me, naming, elements, parts)?;
-    Ok(printed(alloc, naming, Activity::Printing, left, rows))
+    let between = ahead.between;
+    let rows = enter_rows(
+        ahead.alloc,
+        ahead.session,
+        between.me,
+        naming,
+        between.elements,
+        between.parts,
+    )?;
+    Ok(printed(ahead.alloc, naming, Activity::Printing, ahead.left, rows))
 }
 
 /// The number that the letters of an array of OUTPUT name: they follow those of the steps.
@@ -145,7 +138,7 @@ pub fn enter_output(
     ensures right { IfOk result (λ e. (plan : RunPlan) (st : NodeState) → IsRunPlan plan → session.now ≡ session_in plan
         → IsBehindSteps plan number me left st
         → elements.now ≡ st.holdings.elements → parts.now ≡ st.holdings.parts
-        → IsRight plan (outputs_left plan (completed_of (run_in plan)) number (drop number plan.checked.outputs)) me e st) }
+        → EntersAs plan (outputs_left plan (completed_of (run_in plan)) number (drop number plan.checked.outputs)) me e st) }
 {
     let execution = output_execution(session, number);
     match session.checked.outputs.get(number as usize) {

@@ -1,13 +1,13 @@
-ghost use Rattle.std.specs.Prelude.{◌≡◌, ◌≤◌, ◌<◌, ◌^◌, ◌∷◌, List, length, true, false, IfOk};
+ghost use Rattle.std.specs.Prelude.{◌≡◌, ◌≤◌, ◌<◌, ◌^◌, List, length, true, false, IfOk};
 ghost use Rattle.fd_program.specs.declared.trace.Step.{Step as AStep};
-ghost use Rattle.chaos_begin.specs.Begins.{BeginsInspection, BeginsLoop, IsBegun, IsFit, IsPlain, IsSound};
-ghost use Rattle.plan_run.specs.Phases.{site_of as the_site};
-ghost use Rattle.plan_run.specs.Rows.{IsRunPlan, RunPlan, scene_in};
+ghost use Rattle.chaos_begin.specs.Begins.{BeginsInspection, BeginsLoop, BeginsMove, IsBegun, IsFit, IsFitBegun, IsSoundBetween};
+ghost use Rattle.plan_run.specs.Rows.{IsRunPlan, RunPlan};
 ghost use Rattle.plan_walk.specs.Places.{left_from};
-ghost use Rattle.chaos_entering.specs.Coming.{CanStand, IsHere, IsNext, IsRight};
+ghost use Rattle.chaos_entering.specs.Coming.{CanStand, EntersStep, IsHere, ComesNext, EntersAs};
 ghost use Rattle.chaos_entering.specs.Standing.{session_in};
 ghost use Rattle.chaos_entering.specs.State.{NodeState, held_of};
 
+use crate::ahead::Ahead;
 use crate::enter_prints::{enter_end, enter_output, enter_print};
 use crate::entered::Entered;
 use crate::found::{Found, find};
@@ -15,45 +15,32 @@ use crate::loops::{enter_gather, enter_inspection, enter_move};
 use chaos_begin::{Begun, Between};
 use chaos_holdings::{Session, kept_of};
 use chaos_inspect::Inspection;
+use chaos_moving::Moving;
 use fd_program::LoopFacts;
 use fd_words::Memory;
 use inspect_places::PageSet;
 use std::alloc::Global;
 
 /// A FORALL is inspected from here on.
-fn begin_inspection(
-    alloc: Global,
-    session: &Session,
-    between: &Between,
-    pages: &PageSet,
-    number: u64,
-    site: u32,
-    facts: LoopFacts,
-    left: u32,
-) -> Result<Entered, Memory>
-    requires fit { IsFit between.now facts }
-    requires number { number < 2 ^ 63 }
-    requires left { left < 2 ^ 31 }
-    ensures made { IfOk result (CanStand between.now.me session.now.nodes) }
-    ensures falls { IfOk result (λ e. e.left ≤ left) }
-    ensures right { IfOk result (λ e. (plan : RunPlan) (past rest : List AStep) (step : AStep) (st : NodeState) → IsRunPlan plan
-        → session.now ≡ session_in plan → number ≡ length past → site ≡ the_site step
-        → IsHere plan between.now (held_of st) → pages.now ≡ st.holdings.pages → IsNext plan past (step ∷ rest) between.now.me left st
-        → BeginsInspection (scene_in plan) past step facts
-        → IsRight plan (left_from plan past (step ∷ rest)) between.now.me e st) }
+fn begin_inspection(ahead: &Ahead, facts: LoopFacts) -> Result<Entered, Memory>
+    requires { IsFit ahead.now.between.now facts }
+    ensures made { IfOk result (CanStand ahead.now.between.now.me ahead.now.session.now.nodes) }
+    ensures falls { IfOk result (λ e. e.left ≤ ahead.now.left) }
+    ensures right { IfOk result (EntersStep ahead.now (λ s past step. BeginsInspection s past step facts)) }
 {
-    let inspection = Inspection::begin(alloc, facts, between.me)?;
+    let between = ahead.between;
+    let inspection = Inspection::begin(ahead.alloc, facts, between.me)?;
     let entered = enter_inspection(
-        alloc,
-        session,
+        ahead.alloc,
+        ahead.session,
         between.me,
-        number,
-        site,
+        ahead.number,
+        ahead.site,
         inspection,
         between.parts,
-        pages,
+        ahead.pages,
         &[],
-        left,
+        ahead.left,
     )?;
     Ok(begins(entered))
 }
@@ -62,96 +49,62 @@ fn begin_inspection(
 fn begins(entered: Entered) -> Entered
     ensures { result ≡ record entered { begins = true } }
 {
-    let Entered {
-        at,
-        begins: _,
-        left,
-        out,
-        due,
-        got,
-    } = entered;
-    Entered {
-        at,
-        begins: true,
-        left,
-        out,
-        due,
-        got,
-    }
+    let mut entered = entered;
+    entered.begins = true;
+    entered
 }
 
 /// A FORALL is executed by the inspection that is kept of it.
-fn execute_kept(
-    alloc: Global,
-    session: &Session,
-    between: &Between,
-    number: u64,
-    site: u32,
-    left: u32,
-) -> Result<Entered, Memory>
-    requires left { left < 2 ^ 31 }
-    ensures made { IfOk result (CanStand between.now.me session.now.nodes) }
-    ensures falls { IfOk result (λ e. e.left ≤ left) }
-    ensures right { IfOk result (λ e. (plan : RunPlan) (past rest : List AStep) (step : AStep) (st : NodeState) → IsRunPlan plan
-        → session.now ≡ session_in plan → number ≡ length past → site ≡ the_site step
-        → IsHere plan between.now (held_of st) → IsNext plan past (step ∷ rest) between.now.me left st
-        → BeginsLoop (scene_in plan) past step false
-        → IsRight plan (left_from plan past (step ∷ rest)) between.now.me e st) }
+fn execute_kept(ahead: &Ahead) -> Result<Entered, Memory>
+    ensures made { IfOk result (CanStand ahead.now.between.now.me ahead.now.session.now.nodes) }
+    ensures falls { IfOk result (λ e. e.left ≤ ahead.now.left) }
+    ensures right { IfOk result (EntersStep ahead.now (λ s past step. BeginsLoop s past step false)) }
 {
-    match kept_of(between.kept, site) {
+    let between = ahead.between;
+    match kept_of(between.kept, ahead.site) {
         Some(prepared) => enter_gather(
-            alloc,
-            session,
+            ahead.alloc,
+            ahead.session,
             between.me,
-            number,
-            site,
+            ahead.number,
+            ahead.site,
             prepared,
             between.parts,
-            left,
+            ahead.left,
         ),
-        None => Ok(enter_end(alloc, number)),
+        None => Ok(enter_end(ahead.alloc, ahead.number)),
     }
 }
 
-/// The first phase of a step.
-fn enter_step(
-    alloc: Global,
-    session: &Session,
-    between: &Between,
-    pages: &PageSet,
-    number: u64,
-    site: u32,
-    begun: Begun,
-    left: u32,
-) -> Result<Entered, Memory>
-    requires plain { IsPlain between.now begun }
-    requires number { number < 2 ^ 63 }
-    requires left { left < 2 ^ 31 }
-    ensures made { IfOk result (CanStand between.now.me session.now.nodes) }
-    ensures falls { IfOk result (λ e. e.left ≤ left) }
-    ensures right { IfOk result (λ e. (plan : RunPlan) (past rest : List AStep) (step : AStep) (st : NodeState) → IsRunPlan plan
-        → session.now ≡ session_in plan → number ≡ length past → site ≡ the_site step
-        → IsHere plan between.now (held_of st) → pages.now ≡ st.holdings.pages → IsNext plan past (step ∷ rest) between.now.me left st
-        → IsBegun (scene_in plan) past step between.now.me begun
-        → IsRight plan (left_from plan past (step ∷ rest)) between.now.me e st) }
+/// The move of a decomposition begins.
+fn begin_move(ahead: &Ahead, moving: Moving) -> Result<Entered, Memory>
+    ensures made { IfOk result (CanStand ahead.now.between.now.me ahead.now.session.now.nodes) }
+    ensures falls { IfOk result (λ e. e.left ≤ ahead.now.left) }
+    ensures right { IfOk result (EntersStep ahead.now (λ s past step. BeginsMove s past step ahead.now.between.now.me moving)) }
 {
-    let me = between.me;
+    enter_move(
+        ahead.alloc,
+        ahead.session,
+        ahead.between.me,
+        ahead.number,
+        moving,
+        &[],
+        ahead.left,
+    )
+}
+
+/// The first phase of a step.
+fn enter_step(ahead: &Ahead, begun: Begun) -> Result<Entered, Memory>
+    requires { IsFitBegun ahead.now.between.now begun }
+    ensures made { IfOk result (CanStand ahead.now.between.now.me ahead.now.session.now.nodes) }
+    ensures falls { IfOk result (λ e. e.left ≤ ahead.now.left) }
+    ensures right { IfOk result (EntersStep ahead.now (λ s past step. IsBegun s past step ahead.now.between.now.me begun)) }
+{
     match begun {
-        Begun::Print(array) => enter_print(
-            alloc,
-            session,
-            me,
-            number,
-            array,
-            between.elements,
-            between.parts,
-            left,
-        ),
-        Begun::Move(moving) => enter_move(alloc, session, me, number, moving, &[], left),
-        Begun::Inspect(facts) => begin_inspection(
-            alloc, session, between, pages, number, site, facts, left,
-        ),
-        Begun::Execute => execute_kept(alloc, session, between, number, site, left),
+        Begun::Print(array) => enter_print(ahead, array),
+        Begun::Move(moving) => begin_move(ahead, moving),
+        Begun::Inspect(facts) => begin_inspection(ahead, facts),
+        Begun::Execute => execute_kept(ahead),
     }
 }
 
@@ -164,21 +117,32 @@ pub fn enter_next(
     from: u64,
     left: u32,
 ) -> Result<Entered, Memory>
-    requires sound { IsSound between.now }
+    requires sound { IsSoundBetween between.now }
     requires left { left < 2 ^ 31 }
     ensures made { IfOk result (CanStand between.now.me session.now.nodes) }
     ensures falls { IfOk result (λ e. e.left ≤ left) }
     ensures right { IfOk result (λ e. (plan : RunPlan) (past rest : List AStep) (st : NodeState) → IsRunPlan plan
         → session.now ≡ session_in plan → from ≡ length past
-        → IsHere plan between.now (held_of st) → pages.now ≡ st.holdings.pages → IsNext plan past rest between.now.me left st
-        → IsRight plan (left_from plan past rest) between.now.me e st) }
+        → IsHere plan between.now (held_of st) → pages.now ≡ st.holdings.pages → ComesNext plan past rest between.now.me left st
+        → EntersAs plan (left_from plan past rest) between.now.me e st) }
 {
     match find(alloc, between, &session.trace, from)? {
         Found::Step {
             number,
             site,
             begun,
-        } => enter_step(alloc, session, between, pages, number, site, begun, left),
+        } => {
+            let ahead = Ahead {
+                alloc,
+                session,
+                between,
+                pages,
+                number,
+                site,
+                left,
+            };
+            enter_step(&ahead, begun)
+        }
         Found::Over => enter_output(
             alloc,
             session,

@@ -1,11 +1,11 @@
 ghost use Rattle.std.specs.Prelude.{◌≡◌, List, length, IfOk};
 ghost use Rattle.fd_program.specs.Trace.{trace_of};
 ghost use Rattle.fd_program.specs.declared.trace.Step.{Step as AStep};
-ghost use Rattle.chaos_begin.specs.Begins.{IsSound};
+ghost use Rattle.chaos_begin.specs.Begins.{IsSoundBetween};
 ghost use Rattle.plan_run.specs.Held.{Held};
 ghost use Rattle.plan_run.specs.Phases.{site_of as the_site};
 ghost use Rattle.plan_run.specs.Rows.{IsRunPlan, RunPlan};
-ghost use Rattle.chaos_entering.specs.Coming.{IsFound, IsHere, IsPlainFound};
+ghost use Rattle.chaos_entering.specs.Coming.{HasFound, IsHere, IsPlainFound};
 ghost use Rattle.chaos_entering.specs.Standing.{HasCome};
 
 use chaos_begin::{Begun, Between, begin};
@@ -42,11 +42,11 @@ fn site_of(step: &Step) -> u32
 
 /// The first step with phases from a number on: repeats and FORALLs with an empty range are passed over.
 pub fn find(alloc: Global, between: &Between, trace: &Trace, from: u64) -> Result<Found, Memory>
-    requires { IsSound between.now }
+    requires { IsSoundBetween between.now }
     ensures plain { IfOk result (IsPlainFound between.now) }
     ensures found { IfOk result (λ f. (plan : RunPlan) (past rest : List AStep) (v : Held) → IsRunPlan plan
         → trace.now ≡ trace_of plan.checked → from ≡ length past
-        → IsHere plan between.now v → HasCome plan past rest between.now.me v → IsFound plan past rest between.now.me v f) }
+        → IsHere plan between.now v → HasCome plan past rest between.now.me v → HasFound plan past rest between.now.me v f) }
 {
     let steps = trace.as_slice();
     for number in (from as usize)..steps.len() {

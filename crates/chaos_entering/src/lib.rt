@@ -3,6 +3,7 @@
 #![tactic(auto)]
 
 mod activity;
+mod ahead;
 mod enter_prints;
 mod entered;
 mod entering;

@@ -16,9 +16,9 @@ ghost use Rattle.plan_run.specs.Rows.{IsRunPlan, RunPlan, scene_in};
 ghost use Rattle.plan_run.specs.declared.stage.Stage.{Stage as AStage};
 ghost use Rattle.plan_run.specs.declared.stage.Stage.TheVariants as stage;
 ghost use Rattle.chaos_entering.specs.Behind.{stages_behind};
-ghost use Rattle.chaos_entering.specs.Coming.{CanStand, IsComing, IsRight, KnowsLengths};
+ghost use Rattle.chaos_entering.specs.Coming.{CanStand, IsComing, EntersAs, KnowsLengths};
 ghost use Rattle.chaos_entering.specs.Entering.{ArePosted, naming_in};
-ghost use Rattle.chaos_entering.specs.Sending.{IsSomeOk, IsStagedBy, SendsInspecting, SendsMoving, SendsScattered};
+ghost use Rattle.chaos_entering.specs.Sending.{AreSentBy, IsSomeOk, IsStagedBy};
 ghost use Rattle.chaos_holdings.specs.Keeping.{prepared_in};
 ghost use Rattle.chaos_entering.specs.Standing.{GoesOnInspecting, GoesOnMoving, session_in};
 ghost use Rattle.chaos_entering.specs.State.{NodeState};
@@ -86,6 +86,27 @@ fn enter_stage(
     })
 }
 
+/// Such a stage, if there was memory for its lists, by receiver, and for the lengths of those that it
+/// takes, by sender.
+fn sent_by(
+    alloc: Global,
+    session: &Session,
+    me: u32,
+    naming: Naming,
+    lists: Result<NumberLists, Memory>,
+    counts: Result<Vec<u64>, Memory>,
+) -> Result<Staged, Memory>
+    ensures { IfOk result (AreSentBy naming me session.now.nodes lists counts) }
+{
+    match lists {
+        Ok(lists) => match counts {
+            Ok(counts) => enter_stage(alloc, session, me, naming, &lists, counts.as_slice()),
+            Err(Memory) => Err(Memory),
+        },
+        Err(Memory) => Err(Memory),
+    }
+}
+
 /// Such a stage with what the node does in it.
 fn stage_with(naming: Naming, activity: Activity, left: u32, sent: Staged) -> Entered
     ensures { IsStagedBy naming activity left sent result }
@@ -116,12 +137,12 @@ fn without(_activity: Activity) -> Result<Entered, Memory>
 }
 
 /// Nothing more of an activity is due.
-fn is_over(alloc: Global, execution: u64, _activity: Activity) -> Result<Entered, Memory>
-    ensures left { IfOk result (λ e. e.left ≡ 0) }
-    ensures begins { IfOk result (λ e. e.begins ≡ false) }
-    ensures stands { IfOk result (λ e. (me nodes : ℕ) → CanStand me nodes e) }
+fn is_over(alloc: Global, execution: u64, _activity: Activity) -> Entered
+    ensures left { result.left ≡ 0 }
+    ensures begins { result.begins ≡ false }
+    ensures stands { (me nodes : ℕ) → CanStand me nodes result }
 {
-    Ok(enter_end(alloc, execution))
+    enter_end(alloc, execution)
 }
 
 /// The next stage of a move; `sizes` has the lengths of the lists that were sent in the stage before.
@@ -142,32 +163,18 @@ pub fn enter_move(
         → execution ≡ length past → IsComing plan past (Distribute moving.share.decomposition form) rest now more me left st
         → GoesOnMoving plan past moving.share.decomposition form now more me moving
         → KnowsLengths plan past (Distribute moving.share.decomposition form) now me sizes.now
-        → IsRight plan (left_in plan past (Distribute moving.share.decomposition form) rest (now ∷ more)) me e st) }
+        → EntersAs plan (left_in plan past (Distribute moving.share.decomposition form) rest (now ∷ more)) me e st) }
 {
     match moving.stage() {
         Some(stage) => {
             let naming = naming(session, stage, execution, moving.share.decomposition);
-            let sent = move_sends(alloc, session, me, naming, &moving, sizes);
+            let lists = moving.outgoing(alloc);
+            let counts = counts(alloc, stage, session.nodes, sizes);
+            let sent = sent_by(alloc, session, me, naming, lists, counts);
             staged_by(naming, Activity::Moving(moving), left, sent)
         }
-        None => is_over(alloc, execution, Activity::Moving(moving)),
+        None => Ok(is_over(alloc, execution, Activity::Moving(moving))),
     }
-}
-
-/// What is sent in the next stage of a move.
-fn move_sends(
-    alloc: Global,
-    session: &Session,
-    me: u32,
-    naming: Naming,
-    moving: &Moving,
-    sizes: &[u64],
-) -> Result<Staged, Memory>
-    ensures { IfOk result (SendsMoving session.now naming me moving.now sizes.now) }
-{
-    let lists = moving.outgoing(alloc)?;
-    let counts = counts(alloc, naming.stage, session.nodes, sizes)?;
-    enter_stage(alloc, session, me, naming, &lists, counts.as_slice())
 }
 
 /// The next phase of an inspection; `sizes` has the lengths of the lists that were sent in the phase before.
@@ -196,45 +203,20 @@ pub fn enter_inspection(
         → GoesOnInspecting plan past site turn present me st.holdings.tables inspection → parts.now ≡ st.holdings.parts
         → pages.now ≡ st.holdings.pages
         → KnowsLengths plan past (Forall site turn) (stage.InLoop present) me sizes.now
-        → IsRight plan (left_in plan past (Forall site turn) rest
+        → EntersAs plan (left_in plan past (Forall site turn) rest
         (stage.InLoop present ∷ stages_behind (loop_at (scene_in plan) past site turn) present)) me e st) }
 {
     match inspection.phase() {
         Some(phase) => {
-            let naming = naming(session, Stage::InLoop(phase), execution, site);
-            let sent = inspection_sends(
-                alloc,
-                session,
-                me,
-                naming,
-                &inspection,
-                parts,
-                pages,
-                sizes,
-            );
+            let stage = Stage::InLoop(phase);
+            let naming = naming(session, stage, execution, site);
+            let lists = inspection.outgoing(alloc, parts, pages);
+            let counts = counts(alloc, stage, session.nodes, sizes);
+            let sent = sent_by(alloc, session, me, naming, lists, counts);
             staged_by(naming, Activity::Inspecting(inspection), left, sent)
         }
-        None => is_over(alloc, execution, Activity::Inspecting(inspection)),
+        None => Ok(is_over(alloc, execution, Activity::Inspecting(inspection))),
     }
-}
-
-/// What an inspection sends in its next phase.
-fn inspection_sends(
-    alloc: Global,
-    session: &Session,
-    me: u32,
-    naming: Naming,
-    inspection: &Inspection,
-    parts: &NumberLists,
-    pages: &PageSet,
-    sizes: &[u64],
-) -> Result<Staged, Memory>
-    requires { IsAccepted inspection.now.facts }
-    ensures { IfOk result (SendsInspecting session.now naming me inspection.now parts.now pages.now sizes.now) }
-{
-    let lists = inspection.outgoing(alloc, parts, pages)?;
-    let counts = counts(alloc, naming.stage, session.nodes, sizes)?;
-    enter_stage(alloc, session, me, naming, &lists, counts.as_slice())
 }
 
 /// The phase in which the ghosts of an execution are gathered.
@@ -258,15 +240,14 @@ pub fn enter_gather(
         → is_empty_turn turn ≡ false → prepared_in st.holdings.kept site ≡ Some prepared.now
         → CanExecute (scene_in plan) past site turn me st.holdings.tables prepared.now
         → parts.now ≡ st.holdings.parts
-        → IsRight plan (left_in plan past (Forall site turn) rest (stage.InLoop phase.Gather ∷ stage.InLoop phase.Scatter ∷ [])) me e st) }
+        → EntersAs plan (left_in plan past (Forall site turn) rest (stage.InLoop phase.Gather ∷ stage.InLoop phase.Scatter ∷ [])) me e st) }
 {
     letters_have_counts();
-    let stage = Stage::InLoop(LoopPhase::Gather);
-    let naming = naming(session, stage, execution, site);
-    let lists = gather_lists(alloc, prepared, parts)?;
-    let counts = gather_counts(alloc, prepared)?;
-    let sent = enter_stage(alloc, session, me, naming, &lists, counts.as_slice())?;
-    Ok(stage_with(naming, Activity::Gathering, left, sent))
+    let naming = naming(session, Stage::InLoop(LoopPhase::Gather), execution, site);
+    let lists = gather_lists(alloc, prepared, parts);
+    let counts = gather_counts(alloc, prepared);
+    let sent = sent_by(alloc, session, me, naming, lists, counts);
+    staged_by(naming, Activity::Gathering, left, sent)
 }
 
 /// The phase in which its contributions are scattered.
@@ -288,26 +269,12 @@ pub fn enter_scatter(
         → execution ≡ length past → IsComing plan past (Forall site turn) rest (stage.InLoop phase.Scatter) [] me left st
         → is_empty_turn turn ≡ false → prepared_in st.holdings.kept site ≡ Some prepared.now
         → IsExecuting (scene_in plan) past site turn me st.holdings.tables prepared.now executing
-        → IsRight plan (left_in plan past (Forall site turn) rest (stage.InLoop phase.Scatter ∷ [])) me e st) }
-{
-    let naming = naming(session, Stage::InLoop(LoopPhase::Scatter), execution, site);
-    let sent = scatter_sends(alloc, session, me, naming, prepared, &executing);
-    staged_by(naming, Activity::Scattering(executing), left, sent)
-}
-
-/// What is sent as contributions are scattered.
-fn scatter_sends(
-    alloc: Global,
-    session: &Session,
-    me: u32,
-    naming: Naming,
-    prepared: &Prepared,
-    executing: &Executing,
-) -> Result<Staged, Memory>
-    ensures { IfOk result (SendsScattered session.now naming me prepared.now executing.now) }
+        → EntersAs plan (left_in plan past (Forall site turn) rest (stage.InLoop phase.Scatter ∷ [])) me e st) }
 {
     letters_have_counts();
-    let lists = scatter_lists(alloc, prepared, executing)?;
-    let counts = scatter_counts(alloc, prepared)?;
-    enter_stage(alloc, session, me, naming, &lists, counts.as_slice())
+    let naming = naming(session, Stage::InLoop(LoopPhase::Scatter), execution, site);
+    let lists = scatter_lists(alloc, prepared, &executing);
+    let counts = scatter_counts(alloc, prepared);
+    let sent = sent_by(alloc, session, me, naming, lists, counts);
+    staged_by(naming, Activity::Scattering(executing), left, sent)
 }

@@ -9,14 +9,8 @@ use Rattle.fd_program.specs.Homes.{needed_of, given_of}
 use Rattle.chaos_sched.specs.declared.item.Item.{Item}
 use Rattle.plan_tables.specs.Fits.{IsOwn, IsOther}
 use Rattle.plan_loop.specs.LoopLetters.{row_for, value_before, value_given}
+use Rattle.chaos_execute.proofs.Ready.{row_count}
 use Rattle.chaos_executing.specs.Counts.{GatherHasCounts, ScatterHasCounts, CountsAreReported}
-
-row_count : (R : Cell → Item → Type 0) (value : Cell → ℤ) (cells : List Cell) (items : List Item) → AllZip R cells items
-    → 3 * length items ≡ length (flat_map (row_for value) cells)
-row_count R value [] [] h = refl
-row_count R value [] (i ∷ items) h = absurd h
-row_count R value (x ∷ cells) [] h = absurd h
-row_count R value (x ∷ cells) (i ∷ items) h = let rest = row_count R value cells items h.1 in omega (arith, rest)
 
 rows_counted : (R : Cell → Item → Type 0) (value : ℕ → Cell → ℤ) (cells : ℕ → List Cell) (qs : List ℕ) (lists : List (List Item))
     → AllZip (λ q items. AllZip R (cells q) items) qs lists
@@ -25,7 +19,7 @@ rows_counted R value cells [] [] h = refl
 rows_counted R value cells [] (l ∷ lists) h = absurd h
 rows_counted R value cells (q ∷ qs) [] h = absurd h
 rows_counted R value cells (q ∷ qs) (items ∷ lists) h =
-    ap (λ n. n ∷ map (λ (items : List Item). 3 * length items) lists) (row_count R (value q) (cells q) items h.0)
+    ap (λ n. n ∷ map (λ (items : List Item). 3 * length items) lists) (sym (row_count R (value q) (cells q) items h.0))
     ∙ ap (λ l. length (flat_map (row_for (value q)) (cells q)) ∷ l) (rows_counted R value cells qs lists h.1)
 
 same_length : {A B : Type 0} (R : A → B → Type 0) (xs : List A) (ys : List B) → AllZip R xs ys → length ys ≡ length xs

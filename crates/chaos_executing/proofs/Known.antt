@@ -1,26 +1,22 @@
 -- What a node's parts give a Gather letter, and that each of its elements can stand in it.
-use Rattle.std.proofs.Common.{◌≡◌, ℕ, ◌^◌, ◌<◌, ◌≤◌, pos, true, ◌&&◌, List, [], ◌∷◌, length, map, unwrap_or, ap, sym, subst, ◌∙◌, arith}
-use Rattle.std.specs.Prelude.{All, int_le}
-use Rattle.std.specs.List.{AllZip, AllByRecursion}
-use Rattle.std.proofs.lemmas.Bool.Decides.{nat_tests}
-use Rattle.std.proofs.lemmas.Int.{ints}
-use Rattle.std.proofs.lemmas.List.Elements.{All-from_recursion, recursion_from_All}
+use Rattle.std.proofs.Common.{◌≡◌, ℕ, ◌^◌, ◌<◌, pos, List, map, ap, sym, subst, ◌∙◌}
+use Rattle.std.specs.Prelude.{All}
+use Rattle.std.specs.List.{AllZip}
+use Rattle.std.proofs.lemmas.List.Elements.{All-from_recursion}
 use Rattle.chaos_dist.specs.Counting.{below}
 use Rattle.fd_program.specs.Cells.{Cell}
-use Rattle.fd_program.specs.Checks.{IsAligned, IsExtent}
+use Rattle.fd_program.specs.Checks.{IsExtent}
 use Rattle.fd_program.specs.Homes.{cells_of, needed_of}
 use Rattle.fd_program.specs.Layouts.{Scene, loop_at, owners_at, store_at}
-use Rattle.fd_program.specs.ListLaws.{Among, all_at, all_weaker, some_at}
-use Rattle.fd_program.specs.LoopCases.{both_parts}
+use Rattle.fd_program.specs.ListLaws.{Among}
 use Rattle.fd_program.specs.Places.{parts_of}
-use Rattle.fd_program.specs.Stores.{array_at, no_array}
+use Rattle.fd_program.specs.Stores.{array_at}
 use Rattle.fd_words.specs.Roles.{is_read}
 use Rattle.fd_program.specs.declared.array.ArrayFacts.{ArrayFacts}
 use Rattle.fd_program.specs.declared.trace.LoopTurn.{LoopTurn}
 use Rattle.fd_program.specs.declared.trace.Step.{Step}
 use Rattle.chaos_hash.specs.Stamps.{Stamps}
 use Rattle.chaos_move.specs.Moves.{value_at, packed}
-use Rattle.chaos_sched.specs.declared.item.Item.{Item}
 use Rattle.chaos_sched.specs.declared.prepared.Prepared.{Prepared}
 use Rattle.plan_tables.specs.Fits.{IsOwn}
 use Rattle.plan_loop.specs.LoopLetters.{value_before, sent_in}
@@ -28,40 +24,15 @@ use Rattle.plan_loop.specs.declared.loop_phase.LoopPhase.TheVariants.{Gather}
 use Rattle.chaos_execute.specs.Ready.{AreSmall}
 use Rattle.chaos_execute.proofs.Gathered.{IsCellOf, from_between, met_among, met_cell, letters_are}
 use Rattle.chaos_execute.proofs.Lists.{zip_weaker}
+use Rattle.chaos_execute.proofs.Ready.{Small, array_known, each_item, small_element}
 use Rattle.chaos_execute.proofs.Standing.{part_value}
 use Rattle.chaos_executing.specs.InRun.{CanExecute}
 use Rattle.chaos_executing.proofs.Owned.{all_owned, is_site}
 
-abbrev Small : Item → Type 0
-Small i = i.element < 2 ^ 63
-
-each_item : {A B : Type 0} (P : B → Type 0) (xs : List A) (ys : List B) → AllZip (λ x y. P y) xs ys → AllByRecursion P ys
-each_item P [] [] h = tt
-each_item P [] (y ∷ ys) h = absurd h
-each_item P (x ∷ xs) [] h = absurd h
-each_item P (x ∷ xs) (y ∷ ys) h = (h.0, each_item P xs ys h.1)
-
-less_or_same : (e extent : ℕ) → int_le (pos e) (pos extent) ≡ true → e ≤ extent
-less_or_same e extent h = grind (arith, ints, nat_tests)
-
-small_element : (e extent : ℕ) → (int_le (pos 1) (pos e) && int_le (pos e) (pos extent)) ≡ true → extent ≤ 1048576 → e < 2 ^ 63
-small_element e extent h few =
-    let most : e ≤ extent = less_or_same e extent (both_parts (int_le (pos 1) (pos e)) (int_le (pos e) (pos extent)) h).1 in
-    omega (arith, most, few)
-
--- the array with a number is one of the arrays
-array_known : (P : ArrayFacts → Type 0) (arrays : List ArrayFacts) (array : ℕ) → AllByRecursion P arrays → array < length arrays
-    → P (array_at arrays array)
-array_known P arrays array all h =
-    let found = some_at arrays array h in
-    subst P (sym (ap (λ o. unwrap_or o no_array) found.1)) (all_at P arrays array found.0 all found.1)
-
 module _ (s : Scene) (past : List Step) (site : ℕ) (turn : LoopTurn) (p : ℕ) (tables : List Stamps) (kept : Prepared)
     (can : CanExecute s past site turn p tables kept) where
-  pub extents : AllByRecursion (λ (a : ArrayFacts). IsExtent a.extent) s.checked.arrays
-  extents =
-      all_weaker (IsAligned s.checked.layouts) (λ (a : ArrayFacts). IsExtent a.extent) (λ a h. h.extent) s.checked.arrays
-      (recursion_from_All (IsAligned s.checked.layouts) s.checked.arrays can.checked.arrays)
+  pub extents : All (λ (a : ArrayFacts). IsExtent a.extent) s.checked.arrays
+  extents k d less = (can.checked.arrays k d less).extent
 
   read_cell : (q : ℕ) (x : Cell) → Among x (needed_of (loop_at s past site turn) (owners_at s past) (store_at s past) q p)
       → IsCellOf (loop_at s past site turn) (owners_at s past) p x

@@ -1,12 +1,9 @@
 -- What the two phases of an execution do in a run.
 use Rattle.std.proofs.Common.{◌≡◌, ℕ, ℤ, List, map, ap, sym, subst, ◌∙◌}
-use Rattle.std.proofs.lemmas.List.Elements.{All-from_recursion}
-use Rattle.fd_program.specs.Checks.{IsExtent}
 use Rattle.fd_program.specs.Layouts.{Scene, loop_at, owners_at, store_at}
 use Rattle.fd_program.specs.Loops.{after_loop}
 use Rattle.fd_program.specs.Places.{parts_of}
 use Rattle.fd_program.specs.Trace.{site_at}
-use Rattle.fd_program.specs.declared.array.ArrayFacts.{ArrayFacts}
 use Rattle.fd_program.specs.declared.loop_facts.LoopFacts.{LoopFacts}
 use Rattle.fd_program.specs.declared.trace.LoopTurn.{LoopTurn}
 use Rattle.fd_program.specs.declared.trace.Step.{Step}
@@ -14,7 +11,7 @@ use Rattle.chaos_hash.specs.Stamps.{Stamps}
 use Rattle.chaos_move.specs.Moves.{packed, packed_combined}
 use Rattle.chaos_sched.specs.declared.prepared.Prepared.{Prepared}
 use Rattle.plan_loop.specs.declared.loop_phase.LoopPhase.TheVariants.{Gather, Scatter}
-use Rattle.plan_tables.specs.Tables.{slots_of}
+use Rattle.plan_tables.specs.Tables.{slots_entered}
 use Rattle.plan_run.specs.Held.{HasGhosts, no_hand}
 use Rattle.chaos_execute.specs.Executed.{IsReady, ghosts_gathered}
 use Rattle.chaos_execute.specs.Letters.{HasRows, gathered, after_apply}
@@ -33,11 +30,11 @@ use Rattle.chaos_executing.proofs.Tables.{slots_apart, ghosts_have_room}
 
 module _ (s : Scene) (past : List Step) (site : ℕ) (turn : LoopTurn) (p : ℕ) (tables : List Stamps) (kept : Prepared) where
   ready : CanExecute s past site turn p tables kept → AreStamped tables
-      → IsReady (loop_at s past site turn) (owners_at s past) (store_at s past) (slots_of (loop_at s past site turn) tables) p kept
+      → IsReady (loop_at s past site turn) (owners_at s past) (store_at s past) (slots_entered (loop_at s past site turn) tables) p kept
       (no_ghosts (loop_at s past site turn) tables)
   ready can stamped =
       let f = loop_at s past site turn in
-      run_makes_ready s past site turn (slots_of f tables) p kept (no_ghosts f tables) can.some_nodes can.checked can.start can.history
+      run_makes_ready s past site turn (slots_entered f tables) p kept (no_ghosts f tables) can.some_nodes can.checked can.start can.history
       can.steps can.known can.sound
       (slots_apart f tables stamped) can.inspected.fits (ghosts_have_room f tables stamped)
 
@@ -45,8 +42,8 @@ module _ (s : Scene) (past : List Step) (site : ℕ) (turn : LoopTurn) (p : ℕ)
       (store_at s past) p kept
   met can stamped =
       let f = loop_at s past site turn in
-      calls_are_met f (owners_at s past) (store_at s past) (slots_of f tables) p kept (no_ghosts f tables) (ready can stamped)
-      (All-from_recursion (λ (a : ArrayFacts). IsExtent a.extent) s.checked.arrays (extents s past site turn p tables kept can))
+      calls_are_met f (owners_at s past) (store_at s past) (slots_entered f tables) p kept (no_ghosts f tables) (ready can stamped)
+      (extents s past site turn p tables kept can)
 
   -- ---- Gather
 
@@ -83,7 +80,7 @@ module _ (s : Scene) (past : List Step) (site : ℕ) (turn : LoopTurn) (p : ℕ)
         gathered = made;
         pending = run ∙ ap (λ x. pending_of x kept pieces ghosts) facts ∙ ap (λ x. pending_of g kept x ghosts) parts;
         values = subst (λ x. HasGhosts g owners store p tables (record no_hand { ghosts = x })) (sym made)
-            (ghosts_are_values g owners store (slots_of g tables) p kept (no_ghosts g tables) (ready can stamped));
+            (ghosts_are_values g owners store (slots_entered g tables) p kept (no_ghosts g tables) (ready can stamped));
       }
 
   -- ---- Scatter
@@ -102,7 +99,8 @@ module _ (s : Scene) (past : List Step) (site : ℕ) (turn : LoopTurn) (p : ℕ)
         let f = loop_at s past site turn in
         made (met h.can h.stamped).scatter_out
         ∙ ap (λ (v : PendingValues). map (packed_combined v.ghosts) kept.schedule.scatter_send) pending_is
-        ∙ scatter_letters f (owners_at s past) (store_at s past) (slots_of f tables) p kept (no_ghosts f tables) (ready h.can h.stamped)
+        ∙ scatter_letters f (owners_at s past)
+        (store_at s past) (slots_entered f tables) p kept (no_ghosts f tables) (ready h.can h.stamped)
 
     pub scatter_ends : (taken pieces after : List (List ℤ)) → (HasRows taken kept.schedule.scatter_take
         → after ≡ after_apply kept x.pending taken pieces)
@@ -117,4 +115,4 @@ module _ (s : Scene) (past : List Step) (site : ℕ) (turn : LoopTurn) (p : ℕ)
         ∙ ap (λ t. after_apply kept x.pending t pieces) owed
         ∙ ap (after_apply kept x.pending due) parts
         ∙ ap (λ v. after_apply kept v due (parts_of f.arrays (owners_at s past) store p)) pending_is
-        ∙ parts_after f (owners_at s past) store (slots_of f tables) p kept (no_ghosts f tables) (ready h.can h.stamped)
+        ∙ parts_after f (owners_at s past) store (slots_entered f tables) p kept (no_ghosts f tables) (ready h.can h.stamped)

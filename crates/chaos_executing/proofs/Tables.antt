@@ -16,8 +16,8 @@ use Rattle.fd_program.specs.declared.array.ArrayFacts.{ArrayFacts}
 use Rattle.fd_program.specs.declared.loop_facts.LoopFacts.{LoopFacts}
 use Rattle.chaos_hash.specs.Stamps.{Stamps, has_stamp}
 use Rattle.chaos_hash.specs.declared.held.Held.{Held}
-use Rattle.plan_tables.specs.Fits.{AreApart, HasRoom}
-use Rattle.plan_tables.specs.Tables.{no_table, table_at, entry_at, slot_by, slots_of, stamps_of}
+use Rattle.plan_tables.specs.Fits.{HaveOwnSlots, HasRoom}
+use Rattle.plan_tables.specs.Tables.{no_table, table_at, entry_at, slot_by, slots_entered, stamps_of}
 use Rattle.chaos_execute.proofs.Lists.{mapped_at, below_at}
 use Rattle.fd_program.specs.ListLaws.{some_at}
 use Rattle.chaos_executing.specs.Ghosts.{AreStamped, ghosts_below, no_ghosts}
@@ -42,7 +42,7 @@ entry_within (t ∷ tables) zero e h found = omega arith
 entry_within (t ∷ tables) (suc d) e h found = let rest : d < length tables = entry_within tables d e h found in omega (arith, rest)
 
 -- the slots of two elements of a decomposition differ
-pub slots_apart : (f : LoopFacts) (tables : List Stamps) → AreStamped tables → AreApart (slots_of f tables)
+pub slots_apart : (f : LoopFacts) (tables : List Stamps) → AreStamped tables → HaveOwnSlots (slots_entered f tables)
 slots_apart f tables stamped d e g slot he hg =
     let one = slot_found (stamps_of f d) (entry_at tables d e) slot he in
     let two = slot_found (stamps_of f d) (entry_at tables d g) slot hg in
@@ -57,7 +57,7 @@ ghost_count f tables array h =
     ∙ ap (λ (o : Option ArrayFacts). (table_at tables (unwrap_or o no_array).decomposition).peak) (sym found.1)
 
 -- and the ghosts have room for each
-pub ghosts_have_room : (f : LoopFacts) (tables : List Stamps) → AreStamped tables → HasRoom f (slots_of f tables) (no_ghosts f tables)
+pub ghosts_have_room : (f : LoopFacts) (tables : List Stamps) → AreStamped tables → HasRoom f (slots_entered f tables) (no_ghosts f tables)
 ghosts_have_room f tables stamped array e slot h at =
     let d = decomposition_of f.arrays array in
     let one = slot_found (stamps_of f d) (entry_at tables d e) slot at in

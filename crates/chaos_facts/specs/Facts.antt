@@ -7,6 +7,7 @@ use Rattle.chaos_dist.specs.declared.step_form.StepForm.{StepForm}
 use Rattle.chaos_dist.specs.declared.step_form.StepForm.TheVariants.{Regular, Map}
 use Rattle.chaos_records.specs.Keeping.{setting_in}
 use Rattle.chaos_records.specs.declared.records.Records.{Records}
+use Rattle.fd_program.specs.SameLoops.{facts_of}
 use Rattle.fd_program.specs.Trace.{site_at}
 use Rattle.fd_program.specs.declared.array.LayoutName.{LayoutName}
 use Rattle.fd_program.specs.declared.checked.Checked.{Checked}
@@ -34,11 +35,4 @@ layouts_in c r = map (layout_in r) (enumerate_from 0 c.layouts)
 
 -- the facts of a FORALL's execution where these are the records
 abbrev pub facts_in : Checked → ℕ → HomeRule → Records → ℕ → LoopTurn → LoopFacts
-facts_in c nodes rule r site turn = record {
-  arrays = c.arrays;
-  site = site_at c.sites site;
-  turn = turn;
-  layouts = layouts_in c r;
-  nodes = nodes;
-  rule = rule;
-}
+facts_in c nodes rule r site turn = facts_of c.arrays (site_at c.sites site) nodes rule turn (layouts_in c r)

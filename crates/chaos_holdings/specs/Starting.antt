@@ -22,7 +22,7 @@ abbrev pub no_pages : ℕ → List (Option Pages)
 no_pages layouts = replicate layouts None
 
 -- the parts are given, and nothing was moved, inspected or executed
-pub record IsFirst (s : Session) (p : ℕ) (own : List (List ℤ)) (h : Holdings) : Type 0 where
+pub record HoldsFirst (s : Session) (p : ℕ) (own : List (List ℤ)) (h : Holdings) : Type 0 where
   pub elements : h.elements ≡ block_elements s.nodes s.checked.layouts p
   pub parts : h.parts ≡ own
   pub records : h.records ≡ no_records (length s.checked.arrays) (length s.checked.layouts)

@@ -2,8 +2,8 @@ ghost use Rattle.std.specs.Prelude.{◌≡◌, ◌<◌, ◌≤◌, ◌^◌, fold
 ghost use Rattle.std.specs.Option.{option_copied};
 ghost use Rattle.fd_program.specs.Reports.{plus_count};
 ghost use Rattle.fd_program.specs.Trace.{site_at};
-ghost use Rattle.chaos_count.specs.Counting.{noted};
-ghost use Rattle.plan_run.specs.StandLaws.{count_in};
+ghost use Rattle.chaos_count.specs.Counting.{noted_reference};
+ghost use Rattle.plan_run.specs.StandLaws.{counted_at};
 ghost use Rattle.chaos_holdings.specs.Executions.{counted_with, is_last, turn_in, turn_by};
 
 use chaos_count::note_writes;
@@ -16,7 +16,7 @@ use std::alloc::Global;
 
 /// Notes that an execution of a FORALL with these references changed the arrays of its targets.
 fn note_targets(records: &mut Records, references: &[Reference], execution: u64)
-    ensures noted { execution < 2 ^ 32 → records.new ≡ fold (noted execution) records.old references.now }
+    ensures noted { execution < 2 ^ 32 → records.new ≡ fold (noted_reference execution) records.old references.now }
     ensures late { 2 ^ 32 ≤ execution → records.new ≡ records.old }
 {
     if execution < 4_294_967_296 {
@@ -32,7 +32,7 @@ pub fn records_of_execution(
     site: u32,
     execution: u64,
 ) -> Result<Records, Memory>
-    ensures noted { IfOk result (λ after. execution < 2 ^ 32 → after ≡ fold (noted execution) records.now
+    ensures noted { IfOk result (λ after. execution < 2 ^ 32 → after ≡ fold (noted_reference execution) records.now
         (site_at sites.now site).references) }
     ensures late { IfOk result (λ after. 2 ^ 32 ≤ execution → after ≡ records.now) }
 {
@@ -66,7 +66,7 @@ pub fn turn_at(steps: &[Step], number: u64) -> Option<&LoopTurn>
 
 /// What a FORALL has counted.
 pub fn count_at(counts: &[SiteCount], site: u32) -> SiteCount
-    ensures { result ≡ count_in counts.now site }
+    ensures { result ≡ counted_at counts.now site }
 {
     match counts.get(site as usize) {
         Some(count) => *count,

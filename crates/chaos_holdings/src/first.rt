@@ -4,7 +4,7 @@ ghost use Rattle.chaos_dist.specs.declared.shape.Shape.TheVariants.{Block};
 ghost use Rattle.fd_program.specs.Checks.{IsChecked, IsExtent};
 ghost use Rattle.fd_program.specs.Reports.{no_count};
 ghost use Rattle.fd_program.specs.declared.array.LayoutName.{LayoutName as ALayout};
-ghost use Rattle.chaos_holdings.specs.Starting.{IsFirst, block_elements, no_pages};
+ghost use Rattle.chaos_holdings.specs.Starting.{HoldsFirst, block_elements, no_pages};
 
 use crate::holdings::Holdings;
 use crate::kept_list::KeptList;
@@ -90,7 +90,7 @@ pub fn first_holdings(
     requires node { id < session.now.nodes }
     requires few { session.now.nodes ≤ 16 }
     requires checked { IsChecked session.now.checked }
-    ensures { IfOk result (IsFirst session.now id own) }
+    ensures { IfOk result (HoldsFirst session.now id own) }
 {
     let checked = &session.checked;
     let layouts = checked.layouts.len();

@@ -12,7 +12,7 @@ use Rattle.list_laws.specs.Fronts.{begins}
 use Rattle.list_laws.specs.Rows.{append_twice, appended_at}
 use Rattle.list_laws.specs.Tests.{same_number, other_number}
 use Rattle.fd_program.specs.Stores.{number_at}
-use Rattle.chaos_inspect.specs.Dealing.{draws, one_drawn}
+use Rattle.chaos_inspect.specs.Dealing.{numbers_drawn, one_drawn}
 
 -- a number, and then a row
 pub push_append : (lists : List (List ℤ)) (k : ℕ) (v : ℤ) (row : List ℤ) → appended_at (pushed_at lists k v) k row ≡ appended_at lists k
@@ -31,7 +31,7 @@ module _ {A : Type 0} (key : A → ℕ) (value : A → ℤ) (lists : List (List 
       ap (λ b. cond b (set drawn k (get_or drawn k 0 + 1)) drawn) on
 
   pub drawn_right : (drawn : List ℕ) (xs : List A) → AllByRecursion (λ x. key x < length drawn) xs → AreLeft drawn xs
-      → draws lists drawn (map key xs) ≡ map value xs
+      → numbers_drawn lists drawn (map key xs) ≡ map value xs
   drawn_right drawn [] low left = refl
   drawn_right drawn (x ∷ xs) low left =
       let k = key x in
@@ -52,6 +52,6 @@ module _ {A : Type 0} (key : A → ℕ) (value : A → ℤ) (lists : List (List 
             ∙ left j (subst (λ n. j < n) same less)
             ∙ ap (λ b. map value (cond b (x ∷ filter (λ y. key y == j) xs) (filter (λ y. key y == j) xs))) (other_number k j other)
       ] in
-      ap (λ v. v ∷ draws lists (one_drawn lists drawn k) (map key xs)) it.first
-      ∙ ap (λ d. value x ∷ draws lists d (map key xs)) (drawn_is drawn k it.within)
+      ap (λ v. v ∷ numbers_drawn lists (one_drawn lists drawn k) (map key xs)) it.first
+      ∙ ap (λ d. value x ∷ numbers_drawn lists d (map key xs)) (drawn_is drawn k it.within)
       ∙ ap (λ l. value x ∷ l) (drawn_right next xs (subst (λ n. AllByRecursion (λ y. key y < n) xs) (sym same) low.1) more)

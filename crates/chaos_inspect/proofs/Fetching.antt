@@ -32,7 +32,7 @@ use Rattle.plan_loop.specs.declared.loop_phase.LoopPhase.TheVariants.{IndexAsk, 
 use Rattle.inspect_uses.specs.Accepted.{AreOwners, IsAccepted}
 use Rattle.inspect_uses.specs.PlaceLaws.{each_is_owned, local_small}
 use Rattle.inspect_uses.specs.Standing.{standing, natural_bounds}
-use Rattle.chaos_inspect.specs.Dealing.{draws}
+use Rattle.chaos_inspect.specs.Dealing.{numbers_drawn}
 use Rattle.chaos_inspect.specs.Walking.{piece_value, piece_values, spot_ask}
 use Rattle.chaos_inspect.specs.Met.{spot_met, values_of}
 use Rattle.chaos_inspect.specs.declared.spot.Spot.{Spot}
@@ -180,7 +180,7 @@ none_kept f owners k (u ∷ us) h =
     ∙ none_kept f owners k us h.1
 
 pub values_right : (f : LoopFacts) (owners : List (List ℕ)) (store : List (List ℤ)) (p : ℕ) → IsAccepted f → AreOwners f owners
-    → draws (owed_in f owners store IndexValues p) (replicate 16 0)
+    → numbers_drawn (owed_in f owners store IndexValues p) (replicate 16 0)
     (map (λ (s : Spot). s.owner) (map (spot_met f owners) (indexes_of f store p))) ≡ values_of f store p
 values_right f owners store p accepted owned =
     let us = indexes_of f store p in
@@ -197,7 +197,7 @@ values_right f owners store p accepted owned =
           ∙ sym (ap (map (read_of store)) (none_kept f owners k us
           (all_weaker (λ u. owner_met f owners u < f.nodes) (λ u. owner_met f owners u < k) (λ u h. omega (arith, h, past)) us low)))
     ] in
-    ap (draws lists (replicate 16 0)) (map_map_same (λ (s : Spot). s.owner) (spot_met f owners) (owner_met f owners) (λ u. refl) us)
+    ap (numbers_drawn lists (replicate 16 0)) (map_map_same (λ (s : Spot). s.owner) (spot_met f owners) (owner_met f owners) (λ u. refl) us)
     ∙ drawn_right (owner_met f owners) (read_of store) lists (replicate 16 0) us
     (all_weaker (λ u. owner_met f owners u < f.nodes) (λ u. owner_met f owners u < 16) (λ u h. omega (arith, h, accepted.few_nodes)) us
     low) left

@@ -2,6 +2,7 @@
 use Rattle.std.proofs.Common.{◌≡◌, ℕ, ◌+◌, ◌<◌, ◌≤◌, ℤ, pos, List, [], ◌∷◌, ◌++◌, length, filter, drop, take, get_or, refl, ap, sym, ◌∙◌}
 use Rattle.std.proofs.Common.{Some, None, Option, arith, append_assoc, append-nil}
 use Rattle.std.specs.Prelude.{count_by, filter_map}
+use Rattle.std.specs.Option.{option_or}
 use Rattle.std.proofs.lemmas.List.{at_drop_more}
 use Rattle.std.proofs.lemmas.List.Elements.{filter-append, filter_map-append}
 use Rattle.fd_words.specs.declared.place.Offence.{Offence}
@@ -19,12 +20,7 @@ use Rattle.chaos_inspect.specs.Walking.{uses_without}
 use Rattle.chaos_inspect.proofs.Turns.{told_append}
 use Rattle.chaos_inspect.specs.declared.spot.Spot.{Spot}
 
--- the first of two
-abbrev pub either : {A : Type 0} → Option A → Option A → Option A
-either (Some x) other = Some x
-either None other = other
-
-pub first_of-append : {A : Type 0} (xs ys : List A) → first_of (xs ++ ys) ≡ either (first_of xs) (first_of ys)
+pub first_of-append : {A : Type 0} (xs ys : List A) → first_of (xs ++ ys) ≡ option_or (first_of xs) (first_of ys)
 first_of-append [] ys = refl
 first_of-append (x ∷ xs) ys = refl
 
@@ -50,7 +46,7 @@ votes_step f is rest more k i us all less at used none behind before =
     let split : first_of (filter_map (offence_at f.arrays) (us ++ later)) ≡ first_of (filter_map (offence_at f.arrays) later) =
     ap first_of (filter_map-append (offence_at f.arrays) us later) ∙ first_of-append (filter_map (offence_at f.arrays) us)
     (filter_map (offence_at f.arrays) later)
-    ∙ ap (λ o. either o (first_of (filter_map (offence_at f.arrays) later))) none in
+    ∙ ap (λ o. option_or o (first_of (filter_map (offence_at f.arrays) later))) none in
     sym split
     ∙ ap (λ us. first_of (filter_map (offence_at f.arrays) us)) (walked f is rest more k i us less at used behind)
     ∙ before
@@ -65,7 +61,7 @@ votes_found f is rest k i us o all less at used some before =
     let later = uses_through f (drop (k + 1) is) more in
     sym (ap first_of (filter_map-append (offence_at f.arrays) us later) ∙ first_of-append (filter_map (offence_at f.arrays) us)
     (filter_map (offence_at f.arrays) later)
-    ∙ ap (λ o. either o (first_of (filter_map (offence_at f.arrays) later))) some)
+    ∙ ap (λ o. option_or o (first_of (filter_map (offence_at f.arrays) later))) some)
     ∙ ap (λ us. first_of (filter_map (offence_at f.arrays) us)) (walked f is rest more k i us less at used refl)
     ∙ before
 

@@ -15,7 +15,7 @@ use Rattle.fd_program.specs.Met.{is_map, layout_for, stands_met}
 use Rattle.plan_loop.specs.declared.loop_phase.Asking.{Asking}
 use Rattle.inspect_uses.specs.Accepted.{AreOwners, IsAccepted}
 use Rattle.inspect_uses.specs.PlaceLaws.{formula_tells}
-use Rattle.inspect_uses.specs.Reached.{place_by, place_met}
+use Rattle.inspect_uses.specs.Reached.{place_by_form, place_met}
 use Rattle.chaos_inspect.specs.Walking.{is_asked, is_reached, nowhere, spot_of, spots_told, told_behind}
 use Rattle.chaos_inspect.specs.Met.{spot_met}
 use Rattle.chaos_inspect.specs.declared.spot.Spot.{Spot}
@@ -63,12 +63,13 @@ places_behind f owners asking (u ∷ us) more =
     by false e = e
 
 -- where a formula tells no place
-by_map : (form : StepForm) (extent nodes g : ℕ) → is_map form ≡ true → place_by form extent nodes g ≡ None
+by_map : (form : StepForm) (extent nodes g : ℕ) → is_map form ≡ true → place_by_form form extent nodes g ≡ None
 by_map (Regular shape) extent nodes g e = cc
 by_map (Map array) extent nodes g e = refl
 
-by_formula : (form : StepForm) (extent nodes g : ℕ) → is_map form ≡ false → (place : Place) × (place_by form extent nodes g ≡ Some place)
-by_formula (Regular shape) extent nodes g e = (unwrap_or (place_by (Regular shape) extent nodes g) nowhere, refl)
+by_formula : (form : StepForm) (extent nodes g : ℕ) → is_map form ≡ false → (place : Place)
+    × (place_by_form form extent nodes g ≡ Some place)
+by_formula (Regular shape) extent nodes g e = (unwrap_or (place_by_form (Regular shape) extent nodes g) nowhere, refl)
 by_formula (Map array) extent nodes g e = cc
 
 module _ (f : LoopFacts) (owners : List (List ℕ)) (asking : Asking) (accepted : IsAccepted f) (owned : AreOwners f owners) where

@@ -11,6 +11,7 @@ one_drawn lists drawn at =
     if nat_lt count (length (list_at lists at)) then slice_set drawn at (count + 1) else drawn
 
 -- one number for each key, from the front of the list at it; `drawn` has how many are drawn of each before
-abbrev pub draws : List (List ℤ) → List ℕ → List ℕ → List ℤ
-draws lists drawn [] = []
-draws lists drawn (k ∷ ks) = number_at (list_at lists k) (slice_index_or drawn k 0) ∷ draws lists (one_drawn lists drawn k) ks
+abbrev pub numbers_drawn : List (List ℤ) → List ℕ → List ℕ → List ℤ
+numbers_drawn lists drawn [] = []
+numbers_drawn lists drawn (k ∷ ks) = number_at
+    (list_at lists k) (slice_index_or drawn k 0) ∷ numbers_drawn lists (one_drawn lists drawn k) ks

@@ -1,5 +1,6 @@
 -- How far an inspection has come, and what it has in hand there.
 use Rattle.std.specs.Prelude.{◌≡◌, ℕ, ◌<◌, ◌≤◌, ℤ, Bool, if◌then◌else◌, List, length, map, Option, Some, None, is_some, IfSome}
+use Rattle.std.specs.Prelude.{Result, OnErr}
 use Rattle.std.specs.List.{list_any}
 use Rattle.std.specs.Option.{option_and_then}
 use Rattle.inspect_places.specs.Asks.{IsAsked}
@@ -7,7 +8,7 @@ use Rattle.inspect_places.specs.Laws.{uses_wanted}
 use Rattle.chaos_hash.specs.Stamps.{Stamps}
 use Rattle.plan_tables.specs.Fits.{Fits}
 use Rattle.inspect_enter.specs.Preparing.{IsEntering}
-use Rattle.plan_tables.specs.Tables.{IsEntered, slots_of}
+use Rattle.plan_tables.specs.Tables.{IsEntered, KeepsOtherStamps, slots_entered}
 use Rattle.chaos_sched.specs.declared.prepared.Prepared.{Prepared}
 use Rattle.fd_words.specs.declared.place.Offence.{Offence}
 use Rattle.fd_program.specs.Homes.{inspected_by}
@@ -41,15 +42,8 @@ phase_of (Entered entering) = Some ScheduleAsk
 phase_of (Ready prepared) = None
 
 abbrev pub offence_in : Stage → Option Offence
-offence_in (Seeking asking) = None
-offence_in (Telling asking asked) = None
-offence_in Fetching = None
-offence_in (Answering asked) = None
-offence_in Voting = None
 offence_in (Refused offence) = Some offence
-offence_in (Homing told) = None
-offence_in (Entered entering) = None
-offence_in (Ready prepared) = None
+offence_in _ = None
 
 -- ---- what the earlier phases gave
 
@@ -84,7 +78,8 @@ InHand x owners store tables (Homing told) = HasValues x store × HasNoOffence x
     × (told ≡ places_asked x.facts owners store Homes x.me)
 InHand x owners store tables (Entered entering) = HasNoOffence x store × IsEntering x.facts owners store x.me tables entering
 InHand x owners store tables (Ready prepared) =
-    HasNoOffence x store × Fits x.facts owners store (slots_of x.facts tables) x.me prepared × IsEntered x.facts owners store x.me tables
+    HasNoOffence x store × Fits x.facts owners store (slots_entered x.facts tables) x.me prepared
+    × IsEntered x.facts owners store x.me tables
 
 -- the loop is one of a checked program with so few arrays
 pub record IsInspected (f : LoopFacts) : Type 0 where
@@ -98,6 +93,23 @@ pub record IsInspecting (x : Inspection) (owners : List (List ℕ)) (store : Lis
   pub node : x.me < x.facts.nodes
   pub mine : x.mine ≡ inspected_by x.facts x.me
   pub hand : InHand x owners store tables x.stage
+
+-- the same loop on the same node, and all as before where memory is wanting
+pub record IsSame {T E : Type 0} (old new : Inspection) (result : Result T E) : Type 0 where
+  pub facts : new.facts ≡ old.facts
+  pub me : new.me ≡ old.me
+  pub err : OnErr result (new ≡ old)
+
+-- and the tables keep other loops' stamps
+pub record StaysKept {T E : Type 0} (old new : Inspection) (before after : List Stamps) (result : Result T E) : Type 0 where
+  pub same : IsSame old new result
+  pub others : KeepsOtherStamps old.facts before after
+  pub count : length after ≡ length before
+
+-- the tables are those of the loop's decompositions
+pub record IsGiven (f : LoopFacts) (all : List Stamps) : Type 0 where
+  pub accepted : IsAccepted f
+  pub tables : length all ≡ length f.layouts
 
 -- these are the letters that the node sends in the phase that is due, and those that it is owed
 abbrev pub IsDue : Inspection → List (List ℕ) → List (List ℤ) → List (List ℤ) → Type 0
@@ -157,23 +169,9 @@ IsVoted before after = offence_in after ≡ None
 -- ---- the end
 
 abbrev pub IsReady : Stage → Type 0
-IsReady (Seeking asking) = ⊥
-IsReady (Telling asking asked) = ⊥
-IsReady Fetching = ⊥
-IsReady (Answering asked) = ⊥
-IsReady Voting = ⊥
-IsReady (Refused offence) = ⊥
-IsReady (Homing told) = ⊥
-IsReady (Entered entering) = ⊥
 IsReady (Ready prepared) = Unit {0}
+IsReady _ = ⊥
 
 abbrev pub prepared_in : Stage → Option Prepared
-prepared_in (Seeking asking) = None
-prepared_in (Telling asking asked) = None
-prepared_in Fetching = None
-prepared_in (Answering asked) = None
-prepared_in Voting = None
-prepared_in (Refused offence) = None
-prepared_in (Homing told) = None
-prepared_in (Entered entering) = None
 prepared_in (Ready prepared) = Some prepared
+prepared_in _ = None

@@ -43,12 +43,12 @@ abbrev pub is_asked : LoopFacts → Asking → Use → Bool
 is_asked f asking u = is_for f asking u.number u.role && is_met f.arrays u && is_map (layout_for f u.array).form
 
 -- the place by formula, else the first of those told
-abbrev pub place_told : LoopFacts → List Place → Use → Place
-place_told f told u = unwrap_or (place_reached f u) (unwrap_or (slice_get told 0) nowhere)
+abbrev pub place_or_told : LoopFacts → List Place → Use → Place
+place_or_told f told u = unwrap_or (place_reached f u) (unwrap_or (slice_get told 0) nowhere)
 
 -- where the element stands that a reference reaches
 abbrev pub spot_of : LoopFacts → List Place → Use → Spot
-spot_of f told u = record { owner = (place_told f told u).owner; array = u.array; local = (place_told f told u).local }
+spot_of f told u = record { owner = (place_or_told f told u).owner; array = u.array; local = (place_or_told f told u).local }
 
 -- of one reference, if the asking is for it
 abbrev pub spots_one : LoopFacts → Asking → List Place → Use → List Spot

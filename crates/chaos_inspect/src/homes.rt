@@ -1,10 +1,10 @@
 //! The homes of iterations, and the rows that go there.
-ghost use Rattle.std.specs.Prelude.{◌≡◌, ◌≤◌, ◌∷◌, ◌++◌, length, map, take, slice_get, unwrap_or, IfOk, OnOk};
+ghost use Rattle.std.specs.Prelude.{◌≡◌, ◌≤◌, ◌∷◌, map, take, slice_get, unwrap_or, IfOk, OnOk};
 ghost use Rattle.std.specs.List.{flat_map};
+ghost use Rattle.list_laws.specs.Rows.{appended_at, deals};
 ghost use Rattle.fd_program.specs.Homes.{home_by};
 ghost use Rattle.chaos_dist.specs.Homes.{most_of};
 ghost use Rattle.inspect_uses.specs.Accepted.{IsAccepted};
-ghost use Rattle.list_laws.specs.Rows.{appended_at, deals};
 ghost use Rattle.chaos_inspect.specs.Walking.{home_told, homed_through};
 
 use crate::spot::{Spot, Spots, behind_all, note};

@@ -1,7 +1,7 @@
 //! The letters by which the values of index arrays are fetched.
-ghost use Rattle.std.specs.Prelude.{◌≡◌, pos, map, replicate, IfOk};
+ghost use Rattle.std.specs.Prelude.{◌≡◌, map, replicate, IfOk};
 ghost use Rattle.list_laws.specs.Rows.{deals};
-ghost use Rattle.chaos_inspect.specs.Dealing.{draws};
+ghost use Rattle.chaos_inspect.specs.Dealing.{numbers_drawn};
 ghost use Rattle.chaos_inspect.specs.Walking.{piece_value, piece_values, spot_ask};
 
 use crate::dealing::draw;
@@ -48,11 +48,7 @@ fn answer(alloc: Global, pieces: &NumberLists, asked: &[i64]) -> Result<Numbers,
 }
 
 /// The answers to each node's asks.
-pub fn answers(
-    alloc: Global,
-    pieces: &NumberLists,
-    asked: &[Numbers],
-) -> Result<NumberLists, Memory>
+pub fn told(alloc: Global, pieces: &NumberLists, asked: &[Numbers]) -> Result<NumberLists, Memory>
     ensures { IfOk result (λ lists. lists ≡ map (piece_values pieces.now) asked.now) }
 {
     let mut lists = NumberLists::new(alloc);
@@ -64,7 +60,7 @@ pub fn answers(
 
 /// The values that were asked for, in the order of iterations and references.
 pub fn values(alloc: Global, spots: &[Spot], answers: &NumberLists) -> Result<Numbers, Memory>
-    ensures { IfOk result (λ values. values ≡ draws answers.now (replicate 16 0) (map (λ s. s.owner) spots.now)) }
+    ensures { IfOk result (λ values. values ≡ numbers_drawn answers.now (replicate 16 0) (map (λ s. s.owner) spots.now)) }
 {
     let mut drawn = [0usize; MOST_NODES];
     let mut values = Numbers::new(alloc);

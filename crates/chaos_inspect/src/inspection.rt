@@ -1,22 +1,22 @@
 ghost use Rattle.std.specs.Prelude.{◌≡◌, ◌<◌, ◌≤◌, ℕ, ℤ, false, List, length, Some, None, IfOk, OnOk, OnErr};
 ghost use Rattle.std.specs.List.{list_any};
 ghost use Rattle.std.specs.Option.{option_map};
-ghost use Rattle.inspect_places.specs.Asks.{ArePages};
-ghost use Rattle.fd_program.specs.Loops.{offence_of};
+ghost use Rattle.chaos_hash.specs.Stamps.{Stamps};
+ghost use Rattle.chaos_inspect.specs.Inspecting.{Follows, HasNoOffence, HasSpots, HasValues, IsDue, IsInspecting, IsNext, IsOwed, IsReady};
+ghost use Rattle.chaos_inspect.specs.Inspecting.{IsGiven, StaysKept, IsSame};
+ghost use Rattle.chaos_inspect.specs.Inspecting.{IsSeeking, IsVoted, first_phase, first_stage, prepared_in, offence_in, phase_of};
+ghost use Rattle.chaos_inspect.specs.Met.{places_asked, rows_of};
+ghost use Rattle.chaos_inspect.specs.declared.stage.Stage.TheVariants as stage;
 ghost use Rattle.fd_program.specs.Places.{parts_of};
 ghost use Rattle.fd_words.specs.Roles.{is_index};
+ghost use Rattle.inspect_places.specs.Asks.{ArePages};
+ghost use Rattle.inspect_uses.specs.Accepted.{AreOwners, IsAccepted};
 ghost use Rattle.plan_loop.specs.LoopLetters.{asks_places, kind_in_loop, owed_in, sent_in};
 ghost use Rattle.plan_loop.specs.declared.loop_phase.Asking.{Asking as AskingOf};
 ghost use Rattle.plan_loop.specs.declared.loop_phase.Asking.TheVariants as round;
 ghost use Rattle.plan_loop.specs.declared.loop_phase.LoopPhase.TheVariants as phase;
-ghost use Rattle.inspect_uses.specs.Accepted.{AreOwners, IsAccepted};
-ghost use Rattle.chaos_hash.specs.Stamps.{Stamps};
 ghost use Rattle.plan_tables.specs.Fits.{Fits};
-ghost use Rattle.plan_tables.specs.Tables.{HasPlaces, IsEntered, KeepsOtherStamps, slots_of};
-ghost use Rattle.chaos_inspect.specs.Inspecting.{Follows, HasNoOffence, HasSpots, HasValues, IsDue, IsInspecting, IsNext, IsOwed, IsReady};
-ghost use Rattle.chaos_inspect.specs.Inspecting.{IsSeeking, IsVoted, first_phase, first_stage, prepared_in, offence_in, phase_of};
-ghost use Rattle.chaos_inspect.specs.declared.stage.Stage.TheVariants as stage;
-ghost use Rattle.chaos_inspect.specs.Met.{places_asked, rows_of};
+ghost use Rattle.plan_tables.specs.Tables.{HasPlaces, IsEntered, KeepsOtherStamps, slots_entered};
 
 use crate::spot::Spots;
 use crate::stage::Stage;
@@ -185,7 +185,7 @@ impl Inspection {
         &self,
         alloc: Global,
         pieces: &NumberLists,
-        asked: &NumberLists,
+        asked: &[Numbers],
     ) -> Result<NumberLists, Memory>
         requires { IsAccepted self.now.facts }
         ensures { IfOk result (λ lists. (owners : List (List ℕ)) (store : List (List ℤ)) (tables : List Stamps)
@@ -194,7 +194,7 @@ impl Inspection {
             → asked.now ≡ owed_in self.now.facts owners store phase.IndexAsk self.now.me
             → lists ≡ sent_in self.now.facts owners store phase.IndexValues self.now.me) }
     {
-        index::answers(alloc, pieces, asked.as_slice())
+        index::told(alloc, pieces, asked)
     }
 
     /// The least offence among the iterations that this node inspects, to all.
@@ -251,7 +251,7 @@ impl Inspection {
             Stage::Seeking(_) => self.place_asks(alloc),
             Stage::Telling(_, asked) => inspect_places::answers(alloc, &self.facts, pages, asked),
             Stage::Fetching => self.asks(alloc),
-            Stage::Answering(asked) => self.answers(alloc, pieces, asked),
+            Stage::Answering(asked) => self.answers(alloc, pieces, asked.as_slice()),
             Stage::Voting => self.votes(alloc),
             Stage::Refused(_) => Ok(NumberLists::new(alloc)),
             Stage::Homing(told) => self.home_rows(alloc, told.as_slice()),
@@ -269,13 +269,11 @@ impl Inspection {
         asking: Asking,
         taken: &NumberLists,
     ) -> Result<(), Memory>
-        ensures facts { self.new.facts ≡ self.old.facts }
-        ensures me { self.new.me ≡ self.old.me }
-        ensures err { OnErr result (self.new ≡ self.old) }
+        ensures same { IsSame self.old self.new result }
         ensures next { OnOk result (Follows self.old.facts (phase.DerefAsk asking) self.new.stage) }
         ensures inspecting { OnOk result ((owners : List (List ℕ)) (store : List (List ℤ)) (tables : List Stamps)
-            → IsInspecting self.old owners store tables
-            → IsSeeking self.old owners store asking → taken.now ≡ owed_in self.old.facts owners store (phase.DerefAsk asking) self.old.me
+            → IsInspecting self.old owners store tables → IsSeeking self.old owners store asking
+            → taken.now ≡ owed_in self.old.facts owners store (phase.DerefAsk asking) self.old.me
             → IsInspecting self.new owners store tables) }
     {
         let asked = taken.copy(alloc)?;
@@ -286,9 +284,7 @@ impl Inspection {
     /// These are the places of index references.
     fn find_indexes(&mut self, alloc: Global, told: &[Place]) -> Result<(), Memory>
         requires { IsAccepted self.old.facts }
-        ensures facts { self.new.facts ≡ self.old.facts }
-        ensures me { self.new.me ≡ self.old.me }
-        ensures err { OnErr result (self.new ≡ self.old) }
+        ensures same { IsSame self.old self.new result }
         ensures next { OnOk result (Follows self.old.facts (phase.DerefAnswer round.Indexes) self.new.stage) }
         ensures inspecting { OnOk result ((owners : List (List ℕ)) (store : List (List ℤ)) (tables : List Stamps)
             → IsInspecting self.old owners store tables
@@ -307,11 +303,8 @@ impl Inspection {
         told: &[Place],
         tables: &mut TableSet,
     ) -> Result<(), Memory>
-        requires accepted { IsAccepted self.old.facts }
-        requires tables { length tables.old ≡ length self.old.facts.layouts }
-        ensures facts { self.new.facts ≡ self.old.facts }
-        ensures me { self.new.me ≡ self.old.me }
-        ensures err { OnErr result (self.new ≡ self.old) }
+        requires { IsGiven self.old.facts tables.old }
+        ensures kept { StaysKept self.old self.new tables.old tables.new result }
         ensures next { OnOk result (Follows self.old.facts (phase.DerefAnswer round.References) self.new.stage) }
         ensures inspecting { OnOk result ((owners : List (List ℕ)) (store : List (List ℤ)) (before : List Stamps)
             → IsInspecting self.old owners store before
@@ -322,8 +315,6 @@ impl Inspection {
             → IsSeeking self.old owners store round.References → told.now ≡ places_asked self.old.facts owners store round.References
             self.old.me
             → HasPlaces owners tables.old → HasPlaces owners tables.new }
-        ensures others { KeepsOtherStamps self.old.facts tables.old tables.new }
-        ensures count { length tables.new ≡ length tables.old }
     {
         let entering = enter(
             alloc,
@@ -353,15 +344,12 @@ impl Inspection {
     fn take_places(
         &mut self,
         alloc: Global,
-        asking: Asking,
         taken: &NumberLists,
         tables: &mut TableSet,
+        asking: Asking,
     ) -> Result<(), Memory>
-        requires accepted { IsAccepted self.old.facts }
-        requires tables { length tables.old ≡ length self.old.facts.layouts }
-        ensures facts { self.new.facts ≡ self.old.facts }
-        ensures me { self.new.me ≡ self.old.me }
-        ensures err { OnErr result (self.new ≡ self.old) }
+        requires { IsGiven self.old.facts tables.old }
+        ensures kept { StaysKept self.old self.new tables.old tables.new result }
         ensures next { OnOk result (Follows self.old.facts (phase.DerefAnswer asking) self.new.stage) }
         ensures inspecting { OnOk result ((owners : List (List ℕ)) (store : List (List ℤ)) → IsInspecting self.old owners store tables.old
             → IsSeeking self.old owners store asking → taken.now ≡ owed_in self.old.facts owners store (phase.DerefAnswer asking)
@@ -371,8 +359,6 @@ impl Inspection {
             → IsSeeking self.old owners store asking → taken.now ≡ owed_in self.old.facts owners store (phase.DerefAnswer asking)
             self.old.me
             → HasPlaces owners tables.old → HasPlaces owners tables.new }
-        ensures others { KeepsOtherStamps self.old.facts tables.old tables.new }
-        ensures count { length tables.new ≡ length tables.old }
     {
         let told = self.told(alloc, taken)?;
         match asking {
@@ -386,14 +372,11 @@ impl Inspection {
     }
 
     fn take_asks(&mut self, alloc: Global, taken: &NumberLists) -> Result<(), Memory>
-        ensures facts { self.new.facts ≡ self.old.facts }
-        ensures me { self.new.me ≡ self.old.me }
-        ensures err { OnErr result (self.new ≡ self.old) }
+        ensures same { IsSame self.old self.new result }
         ensures next { OnOk result (Follows self.old.facts phase.IndexAsk self.new.stage) }
         ensures inspecting { OnOk result ((owners : List (List ℕ)) (store : List (List ℤ)) (tables : List Stamps)
-            → IsInspecting self.old owners store tables
-            → HasSpots self.old owners store → taken.now ≡ owed_in self.old.facts owners store phase.IndexAsk self.old.me
-            → IsInspecting self.new owners store tables) }
+            → IsInspecting self.old owners store tables → HasSpots self.old owners store
+            → taken.now ≡ owed_in self.old.facts owners store phase.IndexAsk self.old.me → IsInspecting self.new owners store tables) }
     {
         let asked = taken.copy(alloc)?;
         self.stage = Stage::Answering(asked);
@@ -402,14 +385,11 @@ impl Inspection {
 
     fn take_values(&mut self, alloc: Global, taken: &NumberLists) -> Result<(), Memory>
         requires { IsAccepted self.old.facts }
-        ensures facts { self.new.facts ≡ self.old.facts }
-        ensures me { self.new.me ≡ self.old.me }
-        ensures err { OnErr result (self.new ≡ self.old) }
+        ensures same { IsSame self.old self.new result }
         ensures next { OnOk result (Follows self.old.facts phase.IndexValues self.new.stage) }
         ensures inspecting { OnOk result ((owners : List (List ℕ)) (store : List (List ℤ)) (tables : List Stamps)
-            → IsInspecting self.old owners store tables
-            → HasSpots self.old owners store → taken.now ≡ owed_in self.old.facts owners store phase.IndexValues self.old.me
-            → IsInspecting self.new owners store tables) }
+            → IsInspecting self.old owners store tables → HasSpots self.old owners store
+            → taken.now ≡ owed_in self.old.facts owners store phase.IndexValues self.old.me → IsInspecting self.new owners store tables) }
     {
         let values = index::values(alloc, self.spots.as_slice(), taken)?;
         self.values = values;
@@ -420,13 +400,11 @@ impl Inspection {
     /// Asks for the places of the references that tell homes.
     fn seek_homes(&mut self, alloc: Global) -> Result<(), Memory>
         requires { IsAccepted self.old.facts }
-        ensures facts { self.new.facts ≡ self.old.facts }
-        ensures me { self.new.me ≡ self.old.me }
-        ensures err { OnErr result (self.new ≡ self.old) }
+        ensures same { IsSame self.old self.new result }
         ensures stage { OnOk result ((offence_in self.new.stage ≡ None) × (phase_of self.new.stage ≡ Some (phase.DerefAsk round.Homes))) }
         ensures inspecting { OnOk result ((owners : List (List ℕ)) (store : List (List ℤ)) (tables : List Stamps)
-            → IsInspecting self.old owners store tables
-            → HasValues self.old store → HasNoOffence self.old store → IsInspecting self.new owners store tables) }
+            → IsInspecting self.old owners store tables → HasValues self.old store
+            → HasNoOffence self.old store → IsInspecting self.new owners store tables) }
     {
         let asked = round::asked(
             alloc,
@@ -443,13 +421,11 @@ impl Inspection {
     /// No node had an offence: iterations go to their homes.
     fn go_home(&mut self, alloc: Global) -> Result<(), Memory>
         requires { IsAccepted self.old.facts }
-        ensures facts { self.new.facts ≡ self.old.facts }
-        ensures me { self.new.me ≡ self.old.me }
-        ensures err { OnErr result (self.new ≡ self.old) }
+        ensures same { IsSame self.old self.new result }
         ensures next { OnOk result (Follows self.old.facts phase.Vote self.new.stage) }
         ensures inspecting { OnOk result ((owners : List (List ℕ)) (store : List (List ℤ)) (tables : List Stamps)
-            → IsInspecting self.old owners store tables
-            → HasValues self.old store → HasNoOffence self.old store → IsInspecting self.new owners store tables) }
+            → IsInspecting self.old owners store tables → HasValues self.old store
+            → HasNoOffence self.old store → IsInspecting self.new owners store tables) }
     {
         if round::asks(&self.facts, Asking::Homes) {
             self.seek_homes(alloc)
@@ -461,14 +437,11 @@ impl Inspection {
 
     fn take_votes(&mut self, alloc: Global, taken: &NumberLists) -> Result<(), Memory>
         requires { IsAccepted self.old.facts }
-        ensures facts { self.new.facts ≡ self.old.facts }
-        ensures me { self.new.me ≡ self.old.me }
-        ensures err { OnErr result (self.new ≡ self.old) }
         ensures next { OnOk result (IsNext self.old.facts stage.Voting self.new.stage) }
+        ensures same { IsSame self.old self.new result }
         ensures inspecting { OnOk result ((owners : List (List ℕ)) (store : List (List ℤ)) (tables : List Stamps)
-            → IsInspecting self.old owners store tables
-            → HasValues self.old store → taken.now ≡ owed_in self.old.facts owners store phase.Vote self.old.me
-            → IsInspecting self.new owners store tables) }
+            → IsInspecting self.old owners store tables → HasValues self.old store
+            → taken.now ≡ owed_in self.old.facts owners store phase.Vote self.old.me → IsInspecting self.new owners store tables) }
     {
         let vote = votes::least_told(alloc, taken.as_slice())?;
         match vote {
@@ -483,9 +456,7 @@ impl Inspection {
     /// Asks for the places of these rows' references.
     fn seek_references(&mut self, alloc: Global, rows: Numbers) -> Result<(), Memory>
         requires { IsAccepted self.old.facts }
-        ensures facts { self.new.facts ≡ self.old.facts }
-        ensures me { self.new.me ≡ self.old.me }
-        ensures err { OnErr result (self.new ≡ self.old) }
+        ensures same { IsSame self.old self.new result }
         ensures stage { OnOk result ((offence_in self.new.stage ≡ None)
             × (phase_of self.new.stage ≡ Some (phase.DerefAsk round.References))) }
         ensures inspecting { OnOk result ((owners : List (List ℕ)) (store : List (List ℤ)) (tables : List Stamps)
@@ -505,14 +476,11 @@ impl Inspection {
     fn enter_rows(
         &mut self,
         alloc: Global,
-        rows: &[i64],
         tables: &mut TableSet,
+        rows: &[i64],
     ) -> Result<(), Memory>
-        requires accepted { IsAccepted self.old.facts }
-        requires tables { length tables.old ≡ length self.old.facts.layouts }
-        ensures facts { self.new.facts ≡ self.old.facts }
-        ensures me { self.new.me ≡ self.old.me }
-        ensures err { OnErr result (self.new ≡ self.old) }
+        requires { IsGiven self.old.facts tables.old }
+        ensures kept { StaysKept self.old self.new tables.old tables.new result }
         ensures stage { OnOk result ((offence_in self.new.stage ≡ None) × (phase_of self.new.stage ≡ Some phase.ScheduleAsk)) }
         ensures inspecting { OnOk result ((owners : List (List ℕ)) (store : List (List ℤ)) (before : List Stamps)
             → IsInspecting self.old owners store before
@@ -523,8 +491,6 @@ impl Inspection {
             → HasNoOffence self.old store → rows.now ≡ rows_of self.old.facts owners store self.old.me
             → asks_places self.old.facts round.References ≡ false
             → HasPlaces owners tables.old → HasPlaces owners tables.new }
-        ensures others { KeepsOtherStamps self.old.facts tables.old tables.new }
-        ensures count { length tables.new ≡ length tables.old }
     {
         let entering = enter(alloc, &self.facts, self.me, rows, &[], tables)?;
         self.stage = Stage::Entered(entering);
@@ -539,11 +505,8 @@ impl Inspection {
         taken: &NumberLists,
         tables: &mut TableSet,
     ) -> Result<(), Memory>
-        requires accepted { IsAccepted self.old.facts }
-        requires tables { length tables.old ≡ length self.old.facts.layouts }
-        ensures facts { self.new.facts ≡ self.old.facts }
-        ensures me { self.new.me ≡ self.old.me }
-        ensures err { OnErr result (self.new ≡ self.old) }
+        requires { IsGiven self.old.facts tables.old }
+        ensures kept { StaysKept self.old self.new tables.old tables.new result }
         ensures next { OnOk result (Follows self.old.facts phase.Iterations self.new.stage) }
         ensures inspecting { OnOk result ((owners : List (List ℕ)) (store : List (List ℤ)) → IsInspecting self.old owners store tables.old
             → HasNoOffence self.old store → taken.now ≡ owed_in self.old.facts owners store phase.Iterations self.old.me
@@ -551,14 +514,12 @@ impl Inspection {
         ensures places { (owners : List (List ℕ)) (store : List (List ℤ)) → IsInspecting self.old owners store tables.old
             → HasNoOffence self.old store → taken.now ≡ owed_in self.old.facts owners store phase.Iterations self.old.me
             → HasPlaces owners tables.old → HasPlaces owners tables.new }
-        ensures others { KeepsOtherStamps self.old.facts tables.old tables.new }
-        ensures count { length tables.new ≡ length tables.old }
     {
         let rows = homes::joined(alloc, taken.as_slice())?;
         if round::asks(&self.facts, Asking::References) {
             self.seek_references(alloc, rows)
         } else {
-            self.enter_rows(alloc, rows.as_slice(), tables)
+            self.enter_rows(alloc, tables, rows.as_slice())
         }
     }
 
@@ -591,7 +552,7 @@ impl Inspection {
             }
             Stage::Telling(asking, _) => {
                 let asking = *asking;
-                self.take_places(alloc, asking, taken, tables)
+                self.take_places(alloc, taken, tables, asking)
             }
             Stage::Fetching => self.take_asks(alloc, taken),
             Stage::Answering(_) => self.take_values(alloc, taken),
@@ -612,7 +573,8 @@ impl Inspection {
         requires { IsReady self.stage }
         ensures prepared { prepared_in self.stage ≡ Some result }
         ensures fits { (owners : List (List ℕ)) (store : List (List ℤ)) (tables : List Stamps) → IsInspecting self owners store tables
-            → Fits self.facts owners store (slots_of self.facts tables) self.me result × IsEntered self.facts owners store self.me tables }
+            → Fits self.facts owners store (slots_entered self.facts tables) self.me result
+            × IsEntered self.facts owners store self.me tables }
     {
         let Inspection {
             facts: _,

@@ -3,7 +3,7 @@ ghost use Rattle.std.specs.Prelude.{◌≡◌, ◌≤◌, ◌∷◌, ◌++◌, [
 ghost use Rattle.fd_program.specs.Uses.{is_met as is_met_of};
 ghost use Rattle.plan_loop.specs.declared.loop_phase.Asking.TheVariants as round;
 ghost use Rattle.inspect_uses.specs.Accepted.{IsAccepted};
-ghost use Rattle.chaos_inspect.specs.Walking.{is_asked as is_asked_by, place_told, spot_of, spots_one, spots_told, told_behind};
+ghost use Rattle.chaos_inspect.specs.Walking.{is_asked as is_asked_by, place_or_told, spot_of, spots_one, spots_told, told_behind};
 ghost use Rattle.chaos_inspect.specs.Walking.{uses_without};
 
 use crate::round::{asked_of, is_asked, is_reached};
@@ -40,7 +40,7 @@ fn behind(told: &[Place], count: usize) -> &[Place]
 fn place(facts: &LoopFacts, told: &[Place], used: Use) -> Place
     requires accepted { IsAccepted facts.now }
     requires met { is_met_of facts.now.arrays used ≡ true }
-    ensures { result ≡ place_told facts.now told.now used }
+    ensures { result ≡ place_or_told facts.now told.now used }
 {
     match place_by_formula(facts, used) {
         Some(place) => place,

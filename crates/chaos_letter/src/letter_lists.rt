@@ -1,16 +1,16 @@
-ghost use Rattle.std.specs.Prelude.{◌≡◌, [], ◌∷◌, ◌++◌, ◌==◌, length, map, slice_get, slice_set, OnOk, OnErr, IfOk};
+ghost use Rattle.std.specs.Prelude.{◌≡◌, [], ◌∷◌, ◌++◌, ◌==◌, length, map, slice_get, slice_set, OnOk, OnErr};
 ghost use Rattle.std.specs.Option.{option_copied};
 ghost use Rattle.fd_words.specs.Lists.{list_at};
 
 use crate::{Letter, Letters};
-use fd_words::Memory;
+use fd_words::{List, Memory};
 use std::alloc::Global;
 use std::marker::Model;
 
 /// Lists of letters, as one for each pair of nodes; seen as a list of lists.
 #[derive(Debug, Drop)]
 pub struct LetterLists {
-    lists: Vec<Vec<Letter>>,
+    lists: List<Vec<Letter>>,
 }
 
 impl Model for LetterLists {
@@ -19,7 +19,7 @@ impl Model for LetterLists {
 
     ghost Value = { List (List Letter) };
 
-    ghost view = { λ l. map (λ v. v.items) l.lists.items };
+    ghost view = { λ l. map (λ v. v.items) l.lists };
 }
 
 impl LetterLists {
@@ -27,16 +27,16 @@ impl LetterLists {
     pub fn new(alloc: Global) -> LetterLists
         ensures { result ≡ [] }
     {
-        LetterLists {
-            lists: Vec::new(alloc),
-        }
+        LetterLists::from_vec(Vec::new(alloc))
     }
 
     /// The lists of a `Vec`, which takes no memory.
     pub fn from_vec(lists: Vec<Vec<Letter>>) -> LetterLists
         ensures { result ≡ map (λ v. v.items) lists.items }
     {
-        LetterLists { lists }
+        LetterLists {
+            lists: List::from_vec(lists),
+        }
     }
 
     /// Appends a list.
@@ -44,24 +44,21 @@ impl LetterLists {
         ensures ok { OnOk result (self.new ≡ self.old ++ list ∷ []) }
         ensures err { OnErr result (self.new ≡ self.old) }
     {
-        self.lists.push(list.into_vec())?;
-        Ok(())
+        self.lists.push(list.into_vec())
     }
 
     /// Puts another list at a place; nothing from the end on.
     pub fn put(&mut self, at: u64, list: Letters)
         ensures { self.new ≡ slice_set self.old at list }
     {
-        if at < self.len() {
-            self.lists[at as usize] = list.into_vec();
-        }
+        self.lists.put(at, list.into_vec());
     }
 
     /// The list at a place from 0, which is empty from the end on.
     pub fn list(&self, at: u64) -> &[Letter]
         ensures { result.now ≡ list_at self.now at }
     {
-        match self.lists.get(at as usize) {
+        match self.lists.get(at) {
             Some(list) => list.as_slice(),
             None => &[],
         }
@@ -77,7 +74,7 @@ impl LetterLists {
     pub fn len(&self) -> u64
         ensures { result ≡ length self.now }
     {
-        self.lists.len() as u64
+        self.lists.len()
     }
 
     pub fn is_empty(&self) -> bool

@@ -26,25 +26,9 @@ pub fn localise(
     ensures memory { OnErr result ((n : ℕ)
         × ((q : ℕ) → bare (fin.get table.new.held q) ≡ after_items me q (take n list.now) (bare (fin.get table.old.held q)))) }
 {
-    all(alloc, list.as_slice(), table, me)
-}
-
-fn all(
-    alloc: Global,
-    list: &[Entered],
-    table: &mut StampTable,
-    me: u32,
-) -> Result<LocalRefs, Memory>
-    requires stamps { All (λ i. i.stamp < 128) list.now }
-    requires few { fin.len table.old.held + length list.now < 4294967295 }
-    ensures seen { OnOk result ((q : ℕ) → bare (fin.get table.new.held q) ≡ after_items me q list.now (bare (fin.get table.old.held q))) }
-    ensures local { IfOk result (λ refs. AllZip (IsLocal me table.new.held) list.now refs) }
-    ensures keeps { KeepsSlots table.old.held table.new.held }
-    ensures memory { OnErr result ((n : ℕ)
-        × ((q : ℕ) → bare (fin.get table.new.held q) ≡ after_items me q (take n list.now) (bare (fin.get table.old.held q)))) }
-{
     let mut refs = LocalRefs::new(alloc);
-    for item in list {
+    let items = list.as_slice();
+    for item in items {
         let local = one(*item, table, me)?;
         keep(&mut refs, local)?;
     }

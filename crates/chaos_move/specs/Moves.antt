@@ -1,5 +1,6 @@
 -- What letters hold, and what their rows do where they are taken.
-use Rattle.std.specs.Prelude.{ℕ, ℤ, pos, ◌&&◌, List, [], ◌∷◌, drop, Option, Some, None, unwrap_or, slice_get, slice_set, if◌then◌else◌}
+use Rattle.std.specs.Prelude.{ℕ, ℤ, pos, Bool, ◌&&◌, List, [], ◌∷◌, drop, Option, Some, None, unwrap_or, slice_get, slice_set}
+use Rattle.std.specs.Prelude.{if◌then◌else◌}
 use Rattle.std.specs.List.{flat_map}
 use Rattle.std.specs.Ordering.{int_eq}
 use Rattle.fd_words.specs.Combining.{combined}
@@ -18,6 +19,14 @@ value_at lists list at = number_at (list_at lists list) at
 -- a row of a Gather or a Scatter letter
 abbrev pub triple : Item → ℤ → List ℤ
 triple i value = pos i.array ∷ pos i.element ∷ value ∷ []
+
+-- where an item's value stands in a list: at its slot, or at its local address
+abbrev pub address_of : Bool → Item → ℕ
+address_of by_slot i = if by_slot then i.slot else i.local
+
+-- a row for each item, with its value in these lists
+abbrev pub packed_by : Bool → List (List ℤ) → List Item → List ℤ
+packed_by by_slot lists items = flat_map (λ i. triple i (value_at lists i.array (address_of by_slot i))) items
 
 -- what is gathered for the items, from this node's pieces
 abbrev pub packed : List (List ℤ) → List Item → List ℤ

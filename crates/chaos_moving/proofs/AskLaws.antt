@@ -1,25 +1,25 @@
 -- What a node asks of the new pages, what it is asked, and the places that are answered.
-use Rattle.std.proofs.Common.{◌≡◌, refl, ℕ, zero, suc, ◌+◌, ◌-◌, ◌*◌, ◌/◌, ◌<◌, ◌≤◌, ◌==◌, ◌&&◌, Bool, true, false, List, [], ◌∷◌, length}
+use Rattle.std.proofs.Common.{◌≡◌, refl, ℕ, ◌+◌, ◌-◌, ◌*◌, ◌/◌, ◌<◌, ◌≤◌, ◌==◌, ◌&&◌, true, List, [], ◌∷◌, length}
+use Rattle.std.proofs.lemmas.List.FromFn.{get_or-map-range_with_len, length-map-range_with_len}
 use Rattle.std.proofs.Common.{take, map, filter, get_or, ap, sym, subst, ◌∙◌, arith, add-zero}
 use Rattle.std.specs.Prelude.{ℤ, pos, negsuc, All, Option, Some, None, IsSomeAnd, slice_get, unwrap_or, nat_le, if◌then◌else◌}
 use Rattle.std.specs.Int.{w64}
-use Rattle.std.specs.List.{flat_map, range_with_len}
+use Rattle.std.specs.List.{flat_map}
 use Rattle.std.proofs.lemmas.Bool.Decides.{nat_tests}
 use Rattle.std.proofs.lemmas.Int.{ints, to_z_pos}
 use Rattle.std.proofs.lemmas.List.{length-take}
 use Rattle.std.proofs.lemmas.List.Folds.{flat_map-map}
 use Rattle.std.proofs.lemmas.List.Sums.{count_by-le-length}
-use Rattle.std.proofs.lemmas.Nat.{div_below, div-mul-add}
-use Rattle.std.proofs.lemmas.Option.{unwrap_or-slice_get}
-use Rattle.list_laws.specs.Tests.{same_when, left_true, right_true}
+use Rattle.std.proofs.lemmas.Nat.{div-mul-add}
+use Rattle.std.proofs.lemmas.Option.{slice_get-get_or, unwrap_or-slice_get}
+use Rattle.list_laws.specs.Tests.{same_when, right_true}
 use Rattle.fd_words.specs.Lists.{list_at}
 use Rattle.chaos_dist.specs.Counting.{below, up_to}
-use Rattle.chaos_dist.specs.Layout.{divided_up}
-use Rattle.chaos_dist.specs.LayoutLaws.{divided_up-is, divided_up-enough}
 use Rattle.chaos_dist.specs.Owners.{owner_in, local_in, elements_on, page_of}
-use Rattle.chaos_deref.specs.Asking.{IsElement, page_for, asks_for, nowhere, place_named, numbers_of, answers_to, joined}
+use Rattle.chaos_deref.specs.Asking.{IsElement, page_for, asks_for, nowhere, place_looked_up, numbers_of, answers_to, joined}
 use Rattle.chaos_deref.specs.Laws.{IsSent}
 use Rattle.chaos_deref.proofs.Composed.{asking-gives_places}
+use Rattle.chaos_deref.proofs.OfLayout.{page_low}
 use Rattle.fd_program.specs.Layouts.{Scene}
 use Rattle.chaos_table.specs.Pages.{look_in}
 use Rattle.chaos_table.specs.declared.pages.Pages.{Pages}
@@ -30,7 +30,7 @@ use Rattle.plan_run.specs.Phases.{moving_of}
 use Rattle.plan_run.specs.declared.stage.Stage.TheVariants as stage
 use Rattle.chaos_moving.specs.declared.share.Share.{Share}
 use Rattle.chaos_moving.specs.Asks.{asks_named, asked_in, answers_by}
-use Rattle.chaos_moving.specs.IsMoving.{HasShare, sent_in, taken_in}
+use Rattle.chaos_moving.specs.IsMoving.{HasShare, lists_moved, taken_in}
 use Rattle.chaos_moving.proofs.Lists.{map_twice, map_below, filter_mapped, flat_map_each}
 
 -- ---- asks
@@ -83,8 +83,8 @@ answered_of : (page : Pages) (nodes : ℕ) (old new : List ℕ) (p q : ℕ) → 
     → ((g : ℕ) → 1 ≤ g → g ≤ length old → page_of (length old) nodes g ≡ q → look_in page g ≡ Some (place_in new g))
     → answers_to page (map pos (moving_of nodes old p q)) ≡ flat_map (place_row new) (moving_of nodes old p q)
 answered_of page nodes old new p q short tells =
-    flat_map-map (λ v. numbers_of (place_named page v)) pos (moving_of nodes old p q)
-    ∙ flat_map_each (λ g. numbers_of (place_named page (pos g))) (place_row new) (moving_of nodes old p q)
+    flat_map-map (λ v. numbers_of (place_looked_up page v)) pos (moving_of nodes old p q)
+    ∙ flat_map_each (λ g. numbers_of (place_looked_up page (pos g))) (place_row new) (moving_of nodes old p q)
     (λ k g e.
     let h = is_kth (λ g. (owner_in old g == p) && (page_of (length old) nodes g == q)) (length old) k g e in
     let here : page_of (length old) nodes g ≡ q = same_when (page_of (length old) nodes g) q
@@ -96,19 +96,14 @@ answered_of page nodes old new p q short tells =
 abbrev whole : List ℕ → Pages
 whole new = record { first = 1; places = map (place_in new) (up_to (length new)) }
 
-get_range : {B : Type 0} (f : ℕ → B) (a k n : ℕ) → k < n → slice_get (map f (range_with_len a n)) k ≡ Some (f (a + k))
-get_range f a k zero h = absurd (omega arith)
-get_range f a zero (suc n) h = ap (λ x. Some (f x)) (sym (add-zero a))
-get_range f a (suc k) (suc n) h = get_range f (a + 1) k n (omega arith)
-    ∙ (let more : a + 1 + k ≡ a + suc k = omega arith in ap (λ x. Some (f x)) more)
-
 look_whole : (new : List ℕ) (g : ℕ) → 1 ≤ g → g ≤ length new → look_in (whole new) g ≡ Some (place_in new g)
 look_whole new g low high =
     let yes : nat_le 1 g ≡ true = grind (arith, nat_tests) in
     let back : 1 + (g - 1) ≡ g = omega arith in
     ap (λ b. if b then slice_get (map (place_in new) (up_to (length new))) (g - 1) else None) yes
-    ∙ get_range (place_in new) 1 (g - 1) (length new) (omega arith)
-    ∙ ap (λ n. Some (place_in new n)) back
+    ∙ slice_get-get_or (map (place_in new) (up_to (length new))) (g - 1) nowhere
+    (subst (λ n. g - 1 < n) (sym (length-map-range_with_len (place_in new) 1 (length new))) (omega arith))
+    ∙ ap Some (get_or-map-range_with_len (place_in new) 1 (length new) (g - 1) g nowhere (omega arith) back)
 
 owner_small : (nodes : ℕ) (new : List ℕ) (g : ℕ) → nodes ≤ 16 → All (λ o. o < nodes) new → 1 ≤ g → g ≤ length new
     → owner_in new g < 4294967296
@@ -117,22 +112,13 @@ owner_small nodes new g few owned low high =
     let node : owner_in new g < nodes = subst (λ o. o < nodes) (sym (unwrap_or-slice_get new (g - 1) 0)) (owned (g - 1) 0 there) in
     omega (arith, node, few)
 
-page_low : (extent nodes g : ℕ) → 1 ≤ nodes → 1 ≤ g → g ≤ extent → page_of extent nodes g < nodes
-page_low extent nodes g some from_one within =
-    let w = divided_up extent nodes in
-    let elements : 1 ≤ extent = omega arith in
-    let width : 1 ≤ w = omega (arith, divided_up-is extent nodes elements some) in
-    let enough : extent ≤ nodes * w = divided_up-enough extent nodes some in
-    let low : g - 1 < nodes * w = omega (arith, enough, from_one, within) in
-    div_below (g - 1) w nodes width low
-
 module _ (nodes : ℕ) (new : List ℕ) (some : 1 ≤ nodes) (few : nodes ≤ 16) (short : length new ≤ 1048576)
     (owned : All (λ o. o < nodes) new) where
   each_low : (v : ℤ) → IsElement (length new) v → page_for (length new) nodes v < nodes
   each_low (pos g) e = page_low (length new) nodes g some (omega (arith, ints, e.0)) (omega (arith, ints, e.1))
   each_low (negsuc n) e = absurd (omega (arith, ints, e.0))
 
-  each_sent : (v : ℤ) → IsElement (length new) v → IsSent (place_named (whole new) v)
+  each_sent : (v : ℤ) → IsElement (length new) v → IsSent (place_looked_up (whole new) v)
   each_sent (pos g) e =
       let low : 1 ≤ g = omega (arith, ints, e.0) in
       let high : g ≤ length new = omega (arith, ints, e.1) in
@@ -161,8 +147,8 @@ module _ (nodes : ℕ) (new : List ℕ) (some : 1 ≤ nodes) (few : nodes ≤ 16
       (λ q. answers_to (whole new) (list_at (asks_for (length new) nodes wanted) q)) nodes answers)
       ∙ asking-gives_places (length new) nodes (λ _. whole new) wanted (λ i d h. each_low (get_or wanted i d) (elements i d h))
       (λ i d h. each_sent (get_or wanted i d) (elements i d h))
-      ∙ map_twice (place_named (whole new)) pos (elements_on old p)
-      ∙ map-same (λ g. place_named (whole new) (pos g)) (place_in new) (elements_on old p)
+      ∙ map_twice (place_looked_up (whole new)) pos (elements_on old p)
+      ∙ map-same (λ g. place_looked_up (whole new) (pos g)) (place_in new) (elements_on old p)
       (λ k g e.
       let h = is_kth (λ g. owner_in old g == p) (length old) k g e in
       ap (λ o. unwrap_or o nowhere) (look_whole new g h.from_one (subst (λ n. g ≤ n) size h.within)))
@@ -177,7 +163,7 @@ module _ (share : Share) (s : Scene) (owners : List (List ℕ)) (store : List (L
   abbrev old : List ℕ
   old = list_at owners d
 
-  pub asks_sent : map (asks_named d) (asks_for share.extent share.nodes share.elements) ≡ sent_in s owners store d new stage.MovingAsk
+  pub asks_sent : map (asks_named d) (asks_for share.extent share.nodes share.elements) ≡ lists_moved s owners store d new stage.MovingAsk
       share.me
   asks_sent =
       ap (λ n. map (asks_named d) (asks_for n share.nodes share.elements)) (sym has.size)
@@ -196,7 +182,7 @@ module _ (share : Share) (s : Scene) (owners : List (List ℕ)) (store : List (L
 
   pub answers_sent : (page : Option Pages) (asked : List (List ℤ)) → IsSomeAnd page (IsPageOf s.nodes share.me new)
       → asked ≡ map (λ q. map pos (moving_of s.nodes old q share.me)) (below s.nodes)
-      → answers_by page asked ≡ sent_in s owners store d new stage.MovingAnswer share.me
+      → answers_by page asked ≡ lists_moved s owners store d new stage.MovingAnswer share.me
   answers_sent None asked h is = absurd h
   answers_sent (Some page) asked h is =
       let same : length old ≡ length new = has.size ∙ sym size in

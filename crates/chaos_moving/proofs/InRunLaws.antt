@@ -4,13 +4,13 @@ use Rattle.std.proofs.Common.{arith, add-zero}
 use Rattle.std.specs.Prelude.{ℤ, pos}
 use Rattle.std.specs.List.{range_with_len}
 use Rattle.std.proofs.Common.{Bool, cond, false, filter, length, map}
+use Rattle.list_laws.specs.Tests.{same_number}
 use Rattle.chaos_dist.specs.Owners.{elements_on}
 use Rattle.fd_program.specs.Places.{decomposition_of, part_of}
 use Rattle.chaos_remap.proofs.Families.{by_node}
 use Rattle.std.specs.Prelude.{All, Option, slice_get, if◌then◌else◌}
 use Rattle.std.specs.List.{enumerate_from}
 use Rattle.std.specs.Option.{option_map}
-use Rattle.std.proofs.lemmas.Bool.Decides.{nat_tests}
 use Rattle.std.proofs.lemmas.Option.{slice_get-map}
 use Rattle.fd_words.specs.Lists.{list_at}
 use Rattle.chaos_dist.specs.declared.step_form.StepForm.{StepForm}
@@ -41,9 +41,6 @@ enumerate_get {A} n (y ∷ xs) zero x e =
 enumerate_get n (y ∷ xs) (suc k) x e =
     let more : n + 1 + k ≡ n + suc k = omega arith in
     enumerate_get (n + 1) xs k x e ∙ ap (λ m. Some (m, x)) more
-
-same_number : (k : ℕ) → (k == k) ≡ true
-same_number k = grind (arith, nat_tests)
 
 pub owners_are_by_form : OwnersAreByForm
 owners_are_by_form s past d form l e =

@@ -7,7 +7,7 @@ use Rattle.std.specs.List.{flat_map, range_with_len}
 use Rattle.std.proofs.lemmas.Bool.Decides.{nat_tests}
 use Rattle.std.proofs.lemmas.List.Elements.{filter-append}
 use Rattle.std.proofs.lemmas.List.FromFn.{map-range_with_len_more}
-use Rattle.list_laws.specs.Tests.{same_when}
+use Rattle.list_laws.specs.Tests.{same_number}
 use Rattle.chaos_dist.specs.Counting.{up_to}
 use Rattle.std.proofs.lemmas.List.{take_more}
 
@@ -157,9 +157,6 @@ shifted f g a n total fits low mid high =
     ∙ append-nil (flat_map g (range_with_len 1 n))
 
 -- ---- one of many
-
-same_number : (k : ℕ) → (k == k) ≡ true
-same_number k = grind (arith, nat_tests)
 
 not_same : (k p : ℕ) → k < p → (k == p) ≡ false
 not_same k p h = grind (arith, nat_tests)

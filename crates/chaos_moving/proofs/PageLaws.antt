@@ -6,6 +6,7 @@ use Rattle.std.specs.List.{flat_map}
 use Rattle.std.proofs.lemmas.Bool.Decides.{nat_tests}
 use Rattle.std.proofs.lemmas.List.Folds.{flat_map-map}
 use Rattle.fd_words.specs.Lists.{list_at}
+use Rattle.list_laws.specs.Tests.{same_number}
 use Rattle.chaos_dist.specs.Counting.{below, up_to}
 use Rattle.chaos_dist.specs.Owners.{owner_in, length_in, page_of, page_owners, counts_on_page}
 use Rattle.fd_program.specs.Layouts.{Scene}
@@ -18,7 +19,7 @@ use Rattle.plan_run.specs.Held.{IsPageOf}
 use Rattle.plan_run.specs.Phases.{map_rows}
 use Rattle.plan_run.specs.declared.stage.Stage.TheVariants as stage
 use Rattle.chaos_moving.specs.declared.share.Share.{Share}
-use Rattle.chaos_moving.specs.IsMoving.{HasShare, StandsOnNodes, sent_in, taken_in}
+use Rattle.chaos_moving.specs.IsMoving.{HasShare, StandsOnNodes, lists_moved, taken_in}
 use Rattle.chaos_moving.proofs.Lists.{map_twice, filter_flat_map, filter_mapped, one_of}
 
 -- ---- pairs
@@ -51,9 +52,6 @@ map_cond f false x = refl
 and_true : (a b : Bool) → b ≡ true → (a && b) ≡ a
 and_true true b e = e
 and_true false b e = refl
-
-same_number : (k : ℕ) → (k == k) ≡ true
-same_number k = grind (arith, nat_tests)
 
 -- of the numbers that pass, the one that is g
 one_kept : (t : ℕ → Bool) (g n : ℕ) → 1 ≤ g → g ≤ n → filter (λ x. t x && (x == g)) (up_to n) ≡ cond (t g) (g ∷ []) []
@@ -106,7 +104,7 @@ counts_are nodes page new = sym (map_twice pos (λ node. length_in (page_owners 
 module _ (share : Share) (s : Scene) (owners : List (List ℕ)) (store : List (List ℤ)) (new : List ℕ) (pairs : List (List ℤ))
     (has : HasShare share s owners store) (size : length new ≡ share.extent) (covered : IsCovered s.nodes share.me new pairs) where
   pub counts_sent : map (λ q. counts_of share.nodes (owners_on share.extent share.nodes share.me pairs)) (below share.nodes)
-      ≡ sent_in s owners store share.decomposition new stage.PageCounts share.me
+      ≡ lists_moved s owners store share.decomposition new stage.PageCounts share.me
   counts_sent =
       ap (λ n. map (λ q. counts_of n (owners_on share.extent n share.me pairs)) (below n)) has.count
       ∙ ap (λ e. map (λ q. counts_of s.nodes (owners_on e s.nodes share.me pairs)) (below s.nodes)) (sym size)

@@ -16,14 +16,14 @@ use Rattle.fd_words.specs.Value.{remainder_of}
 use Rattle.chaos_dist.specs.Counting.{below, up_to}
 use Rattle.chaos_dist.specs.Homes.{natural}
 use Rattle.chaos_dist.specs.Owners.{owner_in, elements_on, page_of}
-use Rattle.fd_program.specs.Layouts.{Scene, mapped_owners}
+use Rattle.fd_program.specs.Layouts.{Scene, owners_by_map}
 use Rattle.fd_program.specs.Places.{decomposition_of, owner_for, value_on}
 use Rattle.fd_program.specs.Stores.{array_at, element, is_within, number_at}
 use Rattle.plan_run.specs.Phases.{map_rows}
 use Rattle.plan_run.specs.declared.stage.Stage.TheVariants as stage
 use Rattle.chaos_moving.specs.declared.share.Share.{Share}
-use Rattle.chaos_moving.specs.Pairs.{element_at, pairs_to_page, pairs_at, map_pairs}
-use Rattle.chaos_moving.specs.IsMoving.{HasShare, HasMap, StandsOnNodes, sent_in}
+use Rattle.chaos_moving.specs.Pairs.{element_within, pairs_to_page, pairs_at, map_pairs}
+use Rattle.chaos_moving.specs.IsMoving.{HasShare, HasMap, StandsOnNodes, lists_moved}
 use Rattle.chaos_moving.proofs.Lists.{map_flat_map, filter_flat_map, flat_map_at, flat_map_filtered, shifted, length-mapped}
 
 -- ---- owners by a map
@@ -32,15 +32,15 @@ remainder-below : (v : ℤ) (nodes : ℕ) → 1 ≤ nodes → remainder_of v nod
 remainder-below (pos a) nodes some = mod_below a nodes (omega (arith, some))
 remainder-below (negsuc a) nodes some = omega (arith, some)
 
-pub mapped_owned : (nodes : ℕ) (values : List ℤ) → 1 ≤ nodes → All (λ o. o < nodes) (mapped_owners nodes values)
+pub mapped_owned : (nodes : ℕ) (values : List ℤ) → 1 ≤ nodes → All (λ o. o < nodes) (owners_by_map nodes values)
 mapped_owned nodes values some = All-map (λ o. o < nodes) (λ (v : ℤ). remainder_of v nodes) values
     (λ k d h. remainder-below (get_or values k d) nodes some)
 
-owner_mapped : (nodes g : ℕ) (values : List ℤ) → 1 ≤ g → g ≤ length values → owner_in (mapped_owners nodes values) g ≡ remainder_of
+owner_mapped : (nodes g : ℕ) (values : List ℤ) → 1 ≤ g → g ≤ length values → owner_in (owners_by_map nodes values) g ≡ remainder_of
     (number_at values (g - 1)) nodes
 owner_mapped nodes g values low high =
     let there : g - 1 < length values = omega arith in
-    unwrap_or-slice_get (mapped_owners nodes values) (g - 1) 0
+    unwrap_or-slice_get (owners_by_map nodes values) (g - 1) 0
     ∙ get_or-map (λ (v : ℤ). remainder_of v nodes) values (g - 1) (pos 0) 0 there
     ∙ ap (λ v. remainder_of v nodes) (sym (unwrap_or-slice_get values (g - 1) (pos 0)))
 
@@ -65,19 +65,19 @@ kept_is extent nodes q (Some g) value = two_kept (page_of extent nodes g) q (pos
 
 -- ---- which element stands where
 
-not_first : (extent offset e : ℕ) → e ≤ offset → element_at extent offset (pos e) ≡ None
+not_first : (extent offset e : ℕ) → e ≤ offset → element_within extent offset (pos e) ≡ None
 not_first extent offset e h =
     let no : nat_lt offset e ≡ false = grind (arith, nat_tests) in
     ap (λ b. if (b && nat_le (e - offset) extent) then Some (e - offset) else None) no
 
-not_last : (extent offset e : ℕ) → extent + offset < e → element_at extent offset (pos e) ≡ None
+not_last : (extent offset e : ℕ) → extent + offset < e → element_within extent offset (pos e) ≡ None
 not_last extent offset e h =
     let yes : nat_lt offset e ≡ true = grind (arith, nat_tests) in
     let no : nat_le (e - offset) extent ≡ false = grind (arith, nat_tests) in
     ap (λ b. if (b && nat_le (e - offset) extent) then Some (e - offset) else None) yes
     ∙ ap (λ b. if b then Some (e - offset) else None) no
 
-stands : (extent offset g : ℕ) → 1 ≤ g → g ≤ extent → element_at extent offset (pos (g + offset)) ≡ Some g
+stands : (extent offset g : ℕ) → 1 ≤ g → g ≤ extent → element_within extent offset (pos (g + offset)) ≡ Some g
 stands extent offset g low high =
     let back : g + offset - offset ≡ g = omega arith in
     let yes : nat_lt offset (g + offset) ≡ true = grind (arith, nat_tests) in
@@ -109,7 +109,7 @@ module _ (share : Share) (s : Scene) (owners : List (List ℕ)) (store : List (L
   there = list_at owners (decomposition_of s.checked.arrays array)
 
   abbrev new : List ℕ
-  new = mapped_owners s.nodes (list_at store array)
+  new = owners_by_map s.nodes (list_at store array)
 
   abbrev es : List ℕ
   es = elements_on there share.me
@@ -119,7 +119,7 @@ module _ (share : Share) (s : Scene) (owners : List (List ℕ)) (store : List (L
 
   -- the numbers of the element that stands at e
   abbrev row : ℕ → ℕ → List ℤ
-  row q e = row_to share.extent s.nodes q (element_at share.extent offset (pos e)) (value e)
+  row q e = row_to share.extent s.nodes q (element_within share.extent offset (pos e)) (value e)
 
   owner_stands : (g : ℕ) → owner_for s.checked.arrays owners array (pos g) ≡ owner_in there (g + offset)
   owner_stands g = ap (λ z. owner_in there (natural (pos g +ℤ z))) map_is.stands
@@ -161,7 +161,7 @@ module _ (share : Share) (s : Scene) (owners : List (List ℕ)) (store : List (L
       ∙ cond_and (owner_in there (g + offset) == share.me) (page_of share.extent s.nodes g == q) (pair g)
       ∙ ap (λ o. cond ((o == share.me) && (page_of share.extent s.nodes g == q)) (pair g) []) (sym (owner_stands g))
 
-  empty : (q e : ℕ) → element_at share.extent offset (pos e) ≡ None → mine q e ≡ []
+  empty : (q e : ℕ) → element_within share.extent offset (pos e) ≡ None → mine q e ≡ []
   empty q e none =
       ap (λ o. cond (owner_in there e == share.me) (row_to share.extent s.nodes q o (value e)) []) none
       ∙ cond_none (owner_in there e == share.me) []
@@ -183,9 +183,9 @@ module _ (share : Share) (s : Scene) (owners : List (List ℕ)) (store : List (L
       let first : get_or elements k (pos 0) ≡ pos e = ap (λ l. get_or l k (pos 0)) map_is.mine
       ∙ sym (unwrap_or-slice_get (map pos es) k (pos 0)) ∙ number_of_map pos es k e is in
       let second : number_at values k ≡ value e = ap (λ l. number_at l k) map_is.part ∙ number_of_map value es k e is in
-      kept_is share.extent s.nodes q (element_at share.extent offset (get_or elements k (pos 0))) (number_at values k)
-      ∙ ap (λ v. row_to share.extent s.nodes q (element_at share.extent offset v) (number_at values k)) first
-      ∙ ap (row_to share.extent s.nodes q (element_at share.extent offset (pos e))) second
+      kept_is share.extent s.nodes q (element_within share.extent offset (get_or elements k (pos 0))) (number_at values k)
+      ∙ ap (λ v. row_to share.extent s.nodes q (element_within share.extent offset v) (number_at values k)) first
+      ∙ ap (row_to share.extent s.nodes q (element_within share.extent offset (pos e))) second
 
   size : length new ≡ share.extent
   size = length-mapped (λ (v : ℤ). remainder_of v s.nodes) (list_at store array) ∙ map_is.size
@@ -204,7 +204,7 @@ module _ (share : Share) (s : Scene) (owners : List (List ℕ)) (store : List (L
       ∙ ap (λ n. flat_map pair (filter (λ g. (owner_for s.checked.arrays owners array (pos g) == share.me) && (page_of n s.nodes g == q))
       (up_to n))) (sym size)
 
-  pub pairs_sent : map_pairs share.extent share.nodes offset elements values ≡ sent_in s owners store share.decomposition new
+  pub pairs_sent : map_pairs share.extent share.nodes offset elements values ≡ lists_moved s owners store share.decomposition new
       (stage.MapPairs array) share.me
   pairs_sent =
       ap (λ n. map_pairs share.extent n offset elements values) has.count

@@ -24,7 +24,7 @@ use Rattle.plan_run.specs.Held.{place_in}
 use Rattle.plan_run.specs.Phases.{arrays_in, remap_row, remap_rows}
 use Rattle.plan_run.specs.declared.stage.Stage.TheVariants as stage
 use Rattle.chaos_moving.specs.declared.share.Share.{Share}
-use Rattle.chaos_moving.specs.IsMoving.{HasShare, HasPart, parts_by, sent_in, taken_in}
+use Rattle.chaos_moving.specs.IsMoving.{HasShare, HasPart, parts_by, lists_moved, taken_in}
 use Rattle.chaos_moving.proofs.Lists.{map_twice, map_filtered, length-mapped}
 
 -- ---- one letter
@@ -95,7 +95,7 @@ module _ (share : Share) (s : Scene) (owners : List (List ℕ)) (store : List (L
     pieces_are = has.parts ∙ parts_are s owners store d old share.me refl ∙ sym (values_parts s store d old share.me)
 
     pub remap_sent : (places : List Place) → places ≡ map (place_in new) (elements_on old share.me)
-        → map (packed_rows share.elements share.pieces) (planned share.nodes places) ≡ sent_in s owners store d new stage.Remap share.me
+        → map (packed_rows share.elements share.pieces) (planned share.nodes places) ≡ lists_moved s owners store d new stage.Remap share.me
     remap_sent places are =
         ap (λ l. map (packed_rows l share.pieces) (planned share.nodes places)) has.mine
         ∙ ap (λ (l : List (List ℤ)). map (packed_rows (numbers_on old share.me) l) (planned share.nodes places)) pieces_are

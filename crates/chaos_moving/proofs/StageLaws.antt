@@ -5,7 +5,7 @@ use Rattle.std.proofs.lemmas.List.Elements.{All-map}
 use Rattle.std.proofs.lemmas.List.FromFn.{get_or-range_with_len, length-range_with_len}
 use Rattle.fd_words.specs.Lists.{list_at}
 use Rattle.fd_words.specs.declared.place.Place.{Place}
-use Rattle.fd_program.specs.Layouts.{Scene, mapped_owners}
+use Rattle.fd_program.specs.Layouts.{Scene, owners_by_map}
 use Rattle.chaos_dist.specs.Counting.{up_to}
 use Rattle.chaos_dist.specs.LayoutLaws.{owner_of-below}
 use Rattle.chaos_dist.specs.Layout.{owner_of}
@@ -22,7 +22,8 @@ use Rattle.chaos_moving.specs.declared.moving.Moving.{Moving}
 use Rattle.chaos_moving.specs.declared.moving.MovingStage.{MovingStage}
 use Rattle.chaos_moving.specs.declared.moving.MovingStage.TheVariants as at
 use Rattle.chaos_moving.specs.Stages.{regular_place, stage_in, sent_by, stage_after, page_made, later_page}
-use Rattle.chaos_moving.specs.IsMoving.{HasShare, HasMap, HasPart, HasMoved, IsMap, PageInHand, IsMoving, InHand, StandsOnNodes, sent_in}
+use Rattle.chaos_moving.specs.IsMoving.{HasShare, HasMap, HasPart, HasMovedTo, IsMap, PageInHand, IsMoving, IsInHand, StandsOnNodes}
+use Rattle.chaos_moving.specs.IsMoving.{lists_moved}
 use Rattle.chaos_moving.specs.IsMoving.{taken_in}
 use Rattle.chaos_dist.specs.declared.step_form.StepForm.{StepForm}
 use Rattle.chaos_dist.specs.declared.step_form.StepForm.TheVariants.{Regular, Map}
@@ -58,8 +59,8 @@ regular_places_are share s owners store shape has =
 
 pub sent_are : (share : Share) (form : StepForm) (page : Option Pages) (m : MovingStage) (s : Scene) (owners : List (List ℕ))
     (store : List (List ℤ)) (new : List ℕ) → HasShare share s owners store
-    → length new ≡ share.extent → InHand s owners store new share m → PageInHand s.nodes share.me form new page m
-    → IfSome (stage_in m) (λ stage. sent_by share page m ≡ sent_in s owners store share.decomposition new stage share.me)
+    → length new ≡ share.extent → IsInHand s owners store new share m → PageInHand s.nodes share.me form new page m
+    → IfSome (stage_in m) (λ stage. sent_by share page m ≡ lists_moved s owners store share.decomposition new stage share.me)
 sent_are share form page (at.Pairing array pairs) s owners store new has size hand paged = hand.0
 sent_are share form page (at.Counting pairs) s owners store new has size hand paged = counts_sent share s owners store new pairs has size
     hand
@@ -71,9 +72,9 @@ sent_are share form page (at.Moved part) s owners store new has size hand paged 
 
 pub after_is : (share : Share) (m : MovingStage) (s : Scene) (owners : List (List ℕ)) (store : List (List ℤ)) (new : List ℕ)
     (taken : List (List ℤ))
-    → HasShare share s owners store → length new ≡ share.extent → All (λ o. o < s.nodes) new → InHand s owners store new share m
+    → HasShare share s owners store → length new ≡ share.extent → All (λ o. o < s.nodes) new → IsInHand s owners store new share m
     → IfSome (stage_in m) (λ stage. taken ≡ taken_in s owners store share.decomposition new stage share.me)
-    → InHand s owners store new share (stage_after share m taken)
+    → IsInHand s owners store new share (stage_after share m taken)
 after_is share (at.Pairing array pairs) s owners store new taken has size owned hand is = record {
   some = subst (λ n. 1 ≤ n) has.count share.some_nodes;
   elements = subst (λ n. 1 ≤ n) (sym size) share.some_elements;
@@ -97,7 +98,7 @@ of_map nodes p (Map array) new page is h = h
 
 pub page_after : (share : Share) (form : StepForm) (page : Option Pages) (m : MovingStage) (s : Scene) (owners : List (List ℕ))
     (store : List (List ℤ)) (new : List ℕ) (taken : List (List ℤ))
-    → HasShare share s owners store → length new ≡ share.extent → InHand s owners store new share m
+    → HasShare share s owners store → length new ≡ share.extent → IsInHand s owners store new share m
     → PageInHand s.nodes share.me form new page m
     → IfSome (stage_in m) (λ stage. taken ≡ taken_in s owners store share.decomposition new stage share.me)
     → PageInHand s.nodes share.me form new (later_page (page_made share m taken) page) (stage_after share m taken)
@@ -114,10 +115,10 @@ page_after share form page (at.Moved part) s owners store new taken has size han
 
 pub moving_sends : (x : Moving) (lists : List (List ℤ)) (s : Scene) (owners : List (List ℕ)) (store : List (List ℤ)) (new : List ℕ)
     → lists ≡ sent_by x.share x.page x.stage
-    → IsMoving x s owners store new → IfSome (stage_in x.stage) (λ stage. lists ≡ sent_in s owners store x.share.decomposition new stage
+    → IsMoving x s owners store new → IfSome (stage_in x.stage) (λ stage. lists ≡ lists_moved s owners store x.share.decomposition new stage
     x.share.me)
 moving_sends x lists s owners store new is h =
-    subst (λ (l : List (List ℤ)). IfSome (stage_in x.stage) (λ stage. l ≡ sent_in s owners store x.share.decomposition new stage
+    subst (λ (l : List (List ℤ)). IfSome (stage_in x.stage) (λ stage. l ≡ lists_moved s owners store x.share.decomposition new stage
     x.share.me)) (sym is)
     (sent_are x.share x.form x.page x.stage s owners store new h.share h.size h.hand h.page)
 
@@ -171,9 +172,9 @@ pub begun_by_map : (share : Share) (array offset : ℕ) (elements values : List 
     → pairs ≡ map_pairs share.extent share.nodes offset elements values → HasShare share s owners store
     → HasMap share s owners store array offset elements values
     → IsMoving (moving_of_parts share (Map array) None (at.Pairing array pairs)) s owners store
-    (mapped_owners s.nodes (list_at store array))
+    (owners_by_map s.nodes (list_at store array))
 begun_by_map share array offset elements values pairs s owners store is has map_is =
-    let size : length (mapped_owners s.nodes (list_at store array)) ≡ share.extent = length-mapped (λ (v : ℤ). remainder_of v s.nodes)
+    let size : length (owners_by_map s.nodes (list_at store array)) ≡ share.extent = length-mapped (λ (v : ℤ). remainder_of v s.nodes)
     (list_at store array) ∙ map_is.size in
     record {
       share = has;
@@ -189,9 +190,9 @@ begun_by_map share array offset elements values pairs s owners store is has map_
 pub ended : (x : Moving) (part : Remapped) (y : Moved) (s : Scene) (owners : List (List ℕ)) (store : List (List ℤ)) (new : List ℕ)
     → x.stage ≡ at.Moved part
     → y.elements ≡ part.elements → y.pieces ≡ part.pieces → y.page ≡ x.page → IsMoving x s owners store new
-    → HasMoved y s store x.share.decomposition x.form new x.share.me
+    → HasMovedTo y s store x.share.decomposition x.form new x.share.me
 ended x part y s owners store new is elements pieces page h =
-    let has : HasPart part s store x.share.decomposition new x.share.me = subst (InHand s owners store new x.share) is h.hand in
+    let has : HasPart part s store x.share.decomposition new x.share.me = subst (IsInHand s owners store new x.share) is h.hand in
     let paged : HasPage s.nodes x.share.me x.form new x.page = subst (PageInHand s.nodes x.share.me x.form new x.page) is h.page in
     record {
       mine = elements ∙ has.mine;

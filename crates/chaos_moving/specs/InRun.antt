@@ -12,7 +12,7 @@ use Rattle.fd_program.specs.declared.trace.Step.TheVariants.{Distribute}
 use Rattle.plan_run.specs.Held.{Held, Stands, owed_at}
 use Rattle.plan_run.specs.Phases.{arrays_in, numbers_at}
 use Rattle.plan_run.specs.declared.stage.Stage.{Stage}
-use Rattle.chaos_moving.specs.IsMoving.{sent_in, taken_in}
+use Rattle.chaos_moving.specs.IsMoving.{lists_moved, taken_in}
 
 -- the owners after the step
 abbrev pub owners_after : Scene → List Step → ℕ → StepForm → List ℕ
@@ -21,7 +21,7 @@ owners_after s past d form = list_at (owners_at s (Distribute d form ∷ past)) 
 -- the lists that a node sends and takes are those of the run
 abbrev pub LettersAreOfRun : Type 0
 LettersAreOfRun = (s : Scene) (past : List Step) (d : ℕ) (form : StepForm) (stage : Stage) (p : ℕ)
-    → (sent_in s (owners_at s past) (store_at s past) d (owners_after s past d form) stage p
+    → (lists_moved s (owners_at s past) (store_at s past) d (owners_after s past d form) stage p
     ≡ map (λ q. numbers_at s past (Distribute d form) stage p q) (below s.nodes))
     × (taken_in s (owners_at s past) (store_at s past) d (owners_after s past d form) stage p ≡ owed_at s past (Distribute d form) stage p)
 

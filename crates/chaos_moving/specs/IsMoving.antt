@@ -46,8 +46,8 @@ pub record HasMap (share : Share) (s : Scene) (owners : List (List ℕ)) (store 
 -- ---- letters
 
 -- what p sends in a stage, by receiver, and what it takes, by sender, its own list included
-abbrev pub sent_in : Scene → List (List ℕ) → List (List ℤ) → ℕ → List ℕ → Stage → ℕ → List (List ℤ)
-sent_in s owners store d new stage p = map (λ q. move_numbers s owners store d (list_at owners d) new stage p q) (below s.nodes)
+abbrev pub lists_moved : Scene → List (List ℕ) → List (List ℤ) → ℕ → List ℕ → Stage → ℕ → List (List ℤ)
+lists_moved s owners store d new stage p = map (λ q. move_numbers s owners store d (list_at owners d) new stage p q) (below s.nodes)
 
 abbrev pub taken_in : Scene → List (List ℕ) → List (List ℤ) → ℕ → List ℕ → Stage → ℕ → List (List ℤ)
 taken_in s owners store d new stage p = map (λ q. move_numbers s owners store d (list_at owners d) new stage q p) (below s.nodes)
@@ -67,16 +67,16 @@ abbrev pub StandsOnNodes : Scene → List (List ℕ) → ℕ → ℕ → Type 0
 StandsOnNodes s owners array extent = (g : ℕ) → 1 ≤ g → g ≤ extent → owner_for s.checked.arrays owners array (pos g) < s.nodes
 
 -- what the earlier stages gave
-abbrev pub InHand : Scene → List (List ℕ) → List (List ℤ) → List ℕ → Share → MovingStage → Type 0
-InHand s owners store new share (at.Pairing array pairs) =
-    (pairs ≡ sent_in s owners store share.decomposition new (stage.MapPairs array) share.me) × StandsOnNodes s owners array (length new)
-InHand s owners store new share (at.Counting pairs) = IsCovered s.nodes share.me new pairs
-InHand s owners store new share at.Asking = Unit {0}
-InHand s owners store new share (at.Answering asked) =
+abbrev pub IsInHand : Scene → List (List ℕ) → List (List ℤ) → List ℕ → Share → MovingStage → Type 0
+IsInHand s owners store new share (at.Pairing array pairs) =
+    (pairs ≡ lists_moved s owners store share.decomposition new (stage.MapPairs array) share.me) × StandsOnNodes s owners array (length new)
+IsInHand s owners store new share (at.Counting pairs) = IsCovered s.nodes share.me new pairs
+IsInHand s owners store new share at.Asking = Unit {0}
+IsInHand s owners store new share (at.Answering asked) =
     asked ≡ map (λ q. map pos (moving_of s.nodes (list_at owners share.decomposition) q share.me)) (below s.nodes)
-InHand s owners store new share (at.Remapping places) =
+IsInHand s owners store new share (at.Remapping places) =
     places ≡ map (place_in new) (elements_on (list_at owners share.decomposition) share.me)
-InHand s owners store new share (at.Moved part) = HasPart part s store share.decomposition new share.me
+IsInHand s owners store new share (at.Moved part) = HasPart part s store share.decomposition new share.me
 
 abbrev pub IsMap : StepForm → Type 0
 IsMap (Regular shape) = ⊥
@@ -96,12 +96,12 @@ pub record IsMoving (x : Moving) (s : Scene) (owners : List (List ℕ)) (store :
   pub size : length new ≡ x.share.extent
   pub owned : All (λ o. o < s.nodes) new
   pub page : PageInHand s.nodes x.share.me x.form new x.page x.stage
-  pub hand : InHand s owners store new x.share x.stage
+  pub hand : IsInHand s owners store new x.share x.stage
 
 -- ---- after
 
 -- the elements and the local parts under the new owners, and the page where the form is a map
-pub record HasMoved (x : Moved) (s : Scene) (store : List (List ℤ)) (d : ℕ) (form : StepForm) (new : List ℕ) (p : ℕ) : Type 0 where
+pub record HasMovedTo (x : Moved) (s : Scene) (store : List (List ℤ)) (d : ℕ) (form : StepForm) (new : List ℕ) (p : ℕ) : Type 0 where
   pub mine : x.elements ≡ map pos (elements_on new p)
   pub parts : (after : List (List ℕ)) → list_at after d ≡ new → x.pieces ≡ map (part_of s.checked.arrays after store p)
       (arrays_in s.checked d)

@@ -10,9 +10,9 @@ use Rattle.list_laws.specs.Dealt.{dealt}
 use Rattle.fd_program.specs.Stores.{number_at}
 
 -- the array's element that stands at the element that a number names, if there is one
-abbrev pub element_at : ℕ → ℕ → ℤ → Option ℕ
-element_at extent offset (pos e) = if nat_lt offset e && nat_le (e - offset) extent then Some (e - offset) else None
-element_at extent offset (negsuc e) = None
+abbrev pub element_within : ℕ → ℕ → ℤ → Option ℕ
+element_within extent offset (pos e) = if nat_lt offset e && nat_le (e - offset) extent then Some (e - offset) else None
+element_within extent offset (negsuc e) = None
 
 -- its page, with the element and then with its owner
 abbrev pub pairs_to_page : ℕ → ℕ → Option ℕ → ℤ → List (ℕ × ℤ)
@@ -27,7 +27,7 @@ with_pairs lists (pair ∷ rest) = with_pairs (pushed_at lists pair.0 pair.1) re
 -- of the element at a place of the array's part
 abbrev pub pairs_at : ℕ → ℕ → ℕ → List ℤ → List ℤ → ℕ → List (ℕ × ℤ)
 pairs_at extent nodes offset elements values at =
-    pairs_to_page extent nodes (element_at extent offset (slice_index_or elements at (pos 0))) (number_at values at)
+    pairs_to_page extent nodes (element_within extent offset (slice_index_or elements at (pos 0))) (number_at values at)
 
 abbrev pub map_pairs : ℕ → ℕ → ℕ → List ℤ → List ℤ → List (List ℤ)
 map_pairs extent nodes offset elements values =

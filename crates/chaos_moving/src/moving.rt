@@ -1,5 +1,5 @@
 ghost use Rattle.std.specs.Prelude.{◌≡◌, ℕ, ◌≤◌, ℤ, List, Some, None, drop, is_some, true, IfOk, IfSome, OnOk, OnErr};
-ghost use Rattle.fd_program.specs.Layouts.{Scene, mapped_owners};
+ghost use Rattle.fd_program.specs.Layouts.{Scene, owners_by_map};
 ghost use Rattle.chaos_dist.specs.Layout.{given_size};
 ghost use Rattle.chaos_dist.specs.Owners.{regular_owners};
 ghost use Rattle.chaos_dist.specs.declared.step_form.StepForm.TheVariants.{Regular, Map};
@@ -8,13 +8,13 @@ ghost use Rattle.chaos_deref.specs.Asking.{joined};
 ghost use Rattle.chaos_table.specs.Pages.{page_given};
 ghost use Rattle.plan_run.specs.Phases.{moving_stages};
 ghost use Rattle.chaos_moving.specs.Stages.{left_in, later_page, page_made, sent_by, stage_after, stage_in};
-ghost use Rattle.chaos_moving.specs.IsMoving.{HasMap, HasMoved, HasShare, IsMoving, sent_in, taken_in};
+ghost use Rattle.chaos_moving.specs.IsMoving.{HasMap, HasMovedTo, HasShare, IsMoving, lists_moved, taken_in};
 
 use crate::asks::{answer_lists, ask_lists, asked_lists};
 use crate::counts::count_lists;
 use crate::pairs::pair_lists;
 use crate::regular::regular_places;
-use crate::remap::{placed, remap_lists};
+use crate::remap::{leaving, placed};
 use crate::share::Share;
 use chaos_deref::join_answers;
 use chaos_dist::{Shape, StepForm};
@@ -93,7 +93,7 @@ impl Moving {
         ensures stages { IfOk result (λ x. left_in x.stage ≡ moving_stages (Map array)) }
         ensures moving { IfOk result (λ x. (s : Scene) (owners : List (List ℕ)) (store : List (List ℤ)) → HasShare share s owners store
             → HasMap share s owners store array offset elements.now values.now
-            → IsMoving x s owners store (mapped_owners s.nodes (list_at store array))) }
+            → IsMoving x s owners store (owners_by_map s.nodes (list_at store array))) }
     {
         let pairs = pair_lists(alloc, &share, offset, elements, values)?;
         Ok(Moving {
@@ -122,7 +122,7 @@ impl Moving {
     pub fn outgoing(&self, alloc: Global) -> Result<NumberLists, Memory>
         ensures { IfOk result (λ lists. (s : Scene) (owners : List (List ℕ)) (store : List (List ℤ)) (new : List ℕ)
             → IsMoving self.now s owners store new
-            → IfSome (stage_in self.now.stage) (λ stage. lists ≡ sent_in s owners store self.now.share.decomposition new stage
+            → IfSome (stage_in self.now.stage) (λ stage. lists ≡ lists_moved s owners store self.now.share.decomposition new stage
             self.now.share.me)) }
     {
         let lists = self.lists(alloc)?;
@@ -137,7 +137,7 @@ impl Moving {
             MovingStage::Counting { pairs } => count_lists(alloc, &self.share, pairs),
             MovingStage::Asking => ask_lists(alloc, &self.share),
             MovingStage::Answering { asked } => answer_lists(alloc, &self.page, asked),
-            MovingStage::Remapping { places } => remap_lists(alloc, &self.share, places),
+            MovingStage::Remapping { places } => leaving(alloc, &self.share, places),
             MovingStage::Moved { .. } => Ok(NumberLists::new(alloc)),
         }
     }
@@ -209,7 +209,7 @@ impl Moving {
     pub fn finish(self) -> Moved
         requires { stage_in self.stage ≡ None }
         ensures { (s : Scene) (owners : List (List ℕ)) (store : List (List ℤ)) (new : List ℕ) → IsMoving self s owners store new
-            → HasMoved result s store self.share.decomposition self.form new self.share.me }
+            → HasMovedTo result s store self.share.decomposition self.form new self.share.me }
     {
         let Moving {
             share: _,

@@ -2,7 +2,7 @@ ghost use Rattle.std.specs.Prelude.{◌≡◌, ◌≤◌, ◌<◌, pos, length, 
 ghost use Rattle.std.specs.List.{slice_index_or};
 ghost use Rattle.fd_words.specs.Value.{remainder_of};
 ghost use Rattle.fd_program.specs.Stores.{number_at};
-ghost use Rattle.chaos_moving.specs.Pairs.{element_at, map_pairs, pairs_to_page, with_pairs};
+ghost use Rattle.chaos_moving.specs.Pairs.{element_within, map_pairs, pairs_to_page, with_pairs};
 
 use crate::Share;
 use chaos_table::page_of;
@@ -54,7 +54,7 @@ fn pair_all(
 /// The element of the array that stands at an element of its decomposition.
 fn named(extent: u64, offset: u64, elements: &[i64], at: usize) -> Option<u64>
     requires { at < length elements.now }
-    ensures element { result ≡ element_at extent offset (slice_index_or elements.now at (pos 0)) }
+    ensures element { result ≡ element_within extent offset (slice_index_or elements.now at (pos 0)) }
     ensures some { IfSome result (λ g. 1 ≤ g) }
     ensures most { IfSome result (λ g. g ≤ extent) }
 {

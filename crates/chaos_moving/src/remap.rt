@@ -8,11 +8,7 @@ use fd_words::{Memory, NumberLists, Numbers, Places};
 use std::alloc::Global;
 
 /// The elements that go to each node, with their values.
-pub(crate) fn remap_lists(
-    alloc: Global,
-    share: &Share,
-    places: &Places,
-) -> Result<NumberLists, Memory>
+pub(crate) fn leaving(alloc: Global, share: &Share, places: &Places) -> Result<NumberLists, Memory>
     ensures { IfOk result (λ lists. lists ≡ map (packed_rows share.now.elements share.now.pieces) (planned share.now.nodes places.now)) }
 {
     let goes = plan_remap(alloc, places, share.nodes)?;

@@ -13,7 +13,7 @@ use Rattle.fd_program.specs.declared.trace.Step.{Step}
 use Rattle.fd_program.specs.declared.trace.Step.TheVariants.{Forall}
 use Rattle.plan_walk.specs.LetterLaws.{letters_come_in, letters_for}
 use Rattle.plan_walk.specs.PhaseBegins.{rows_follow}
-use Rattle.plan_walk.specs.Places.{StandsBefore}
+use Rattle.plan_walk.specs.Places.{StandsBetween}
 use Rattle.plan_walk.specs.StepEnds.{steps_are_known}
 use Rattle.plan_run.specs.Phases.{Phase}
 use Rattle.plan_run.specs.Rows.{RunPlan, face_left, node_row, phases_in, scene_in}
@@ -46,12 +46,12 @@ ends_phase plan t p f later v is_node row phases =
 pub some_same : {A : Type 0} (x y : A) → Some x ≡ Some y → x ≡ y
 some_same x y e = cc
 
-pub turn_is : (plan : RunPlan) (past rest : List Step) (site : ℕ) (turn : LoopTurn) → StandsBefore plan past (Forall site turn ∷ rest)
+pub turn_is : (plan : RunPlan) (past rest : List Step) (site : ℕ) (turn : LoopTurn) → StandsBetween plan past (Forall site turn ∷ rest)
     → turn_in (trace_of plan.checked) (length past) ≡ Some turn
 turn_is plan past rest site turn h = ap (λ o. option_and_then turn_by o) (steps_are_known plan past (Forall site turn ∷ rest) h).next
 
 -- the steps behind are the program's
-pub steps_behind : StepsAreIn → (plan : RunPlan) (past rest : List Step) → IsChecked plan.checked → StandsBefore plan past rest
+pub steps_behind : StepsAreIn → (plan : RunPlan) (past rest : List Step) → IsChecked plan.checked → StandsBetween plan past rest
     → AllByRecursion (IsStepIn plan.checked) past
 steps_behind steps plan past rest known h =
     all_reversed (IsStepIn plan.checked) past

@@ -26,11 +26,11 @@ use Rattle.plan_run.specs.Rows.{IsRunPlan, RunPlan, phases_in, run_in, scene_in}
 use Rattle.plan_run.specs.declared.stage.Stage.TheVariants as stage
 use Rattle.chaos_sched.specs.declared.prepared.Prepared.{Prepared}
 use Rattle.chaos_node.proofs.ExecutionPlaces.{EndsPhase, ends_phase, some_same, steps_behind, turn_is}
-use Rattle.chaos_node.specs.Changing.{ChangesRight, changed}
-use Rattle.chaos_entering.specs.Coming.{IsComing, IsRight}
+use Rattle.chaos_node.specs.Changing.{ChangesRight, changed_by}
+use Rattle.chaos_entering.specs.Coming.{IsComing, EntersAs}
 use Rattle.chaos_holdings.specs.Executions.{turn_in}
 use Rattle.chaos_holdings.specs.Keeping.{prepared_in}
-use Rattle.chaos_entering.specs.Standing.{IsGather, IsPlace, Knows, session_in}
+use Rattle.chaos_entering.specs.Standing.{IsGather, IsPlace, KnowsInStep, session_in}
 use Rattle.chaos_entering.specs.State.{NodeState, held_of}
 use Rattle.chaos_entering.specs.declared.activity.Activity.TheVariants.{Gathering}
 use Rattle.chaos_node.specs.declared.change.Change.{Change}
@@ -51,7 +51,7 @@ EntersScatter session me execution site prepared x left e =
     → execution ≡ length past → IsComing plan past (Forall site turn) rest (stage.InLoop phase.Scatter) [] me left st
     → is_empty_turn turn ≡ false → prepared_in st.holdings.kept site ≡ Some prepared
     → IsExecuting (scene_in plan) past site turn me st.holdings.tables prepared x
-    → IsRight plan (left_in plan past (Forall site turn) rest (stage.InLoop phase.Scatter ∷ [])) me e st
+    → EntersAs plan (left_in plan past (Forall site turn) rest (stage.InLoop phase.Scatter ∷ [])) me e st
 
 -- ---- nothing else happens
 
@@ -95,8 +95,8 @@ pub gather_ends : StepsAreIn → FactsAreExact → (v : View NodeState) (prepare
 gather_ends steps exact v prepared turn x left e at kept turned less executes enters plan t p is is_node row holds =
     by (subst (IsPlace plan (drop t (phases_in plan)) p v.state) at holds.place)
   where
-    by : IsGather plan (drop t (phases_in plan)) p v.state → IsRight plan (drop (t + 1) (phases_in plan)) p e
-        (changed v.state (record { effect = Nothing; line = []; entered = e }))
+    by : IsGather plan (drop t (phases_in plan)) p v.state → EntersAs plan (drop (t + 1) (phases_in plan)) p e
+        (changed_by v.state (record { effect = Nothing; line = []; entered = e }))
     by g =
         let s = scene_in plan in
         let st = v.state in
@@ -105,7 +105,7 @@ gather_ends steps exact v prepared turn x left e at kept turned less executes en
         let scatter = stage.InLoop phase.Scatter in
         let f = present_phase plan g.past step g.rest (stage.InLoop phase.Gather) (scatter ∷ []) in
         let later = left_in plan g.past step g.rest (scatter ∷ []) in
-        let after = changed st (record { effect = Nothing; line = []; entered = e }) in
+        let after = changed_by st (record { effect = Nothing; line = []; entered = e }) in
         let end : EndsPhase plan t p f later v =
         ends_phase plan t p f later v is_node row (g.in_step.phases_are
         ∙ phases_follow plan g.past step g.rest (stage.InLoop phase.Gather) (scatter ∷ []) refl) in
@@ -149,11 +149,11 @@ gather_ends steps exact v prepared turn x left e at kept turned less executes en
             sized = knows.sized;
           };
         } in
-        let right : IsRight plan later v.face.me e after =
+        let right : EntersAs plan later v.face.me e after =
         enters plan g.past g.rest g.turn after is holds.session g.in_step.execution
         (subst (λ q. IsComing plan g.past step g.rest scatter [] q left after) (sym end.me) coming) g.some kept
         (subst (λ q. IsExecuting s g.past site g.turn q st.holdings.tables prepared x) (sym end.me) executing) in
-        subst (λ fs. IsRight plan fs p e after) (sym end.behind) (subst (λ q. IsRight plan later q e after) end.me right)
+        subst (λ fs. EntersAs plan fs p e after) (sym end.behind) (subst (λ q. EntersAs plan later q e after) end.me right)
       where
         same_left : (n m : ℕ) → n + 1 ≡ m + 1 → n ≡ m
         same_left n m e = omega (arith, e)

@@ -31,7 +31,7 @@ use Rattle.plan_run.specs.declared.stage.Stage.{Stage}
 use Rattle.plan_run.specs.declared.stage.Stage.TheVariants as stage
 use Rattle.plan_walk.specs.LetterLaws.{letters_come_in, own_list_is_put_in}
 use Rattle.plan_walk.specs.Letters.{numbers_of, put_in}
-use Rattle.plan_walk.specs.Places.{StandsBefore, present_phase}
+use Rattle.plan_walk.specs.Places.{StandsBetween, present_phase}
 use Rattle.chaos_entering.specs.Behind.{stages_behind}
 use Rattle.chaos_node.specs.Changing.{ChangesRight}
 use Rattle.chaos_node.specs.declared.change.Change.{Change}
@@ -44,7 +44,7 @@ use Rattle.chaos_node.proofs.InspectionSteps.{inspection_is_early, some_left}
 -- ---- steps
 
 -- the steps behind and before a node are the program's
-pub steps_at : StepsAreIn → (plan : RunPlan) (past rest : List Step) → IsChecked plan.checked → StandsBefore plan past rest
+pub steps_at : StepsAreIn → (plan : RunPlan) (past rest : List Step) → IsChecked plan.checked → StandsBetween plan past rest
     → AllByRecursion (IsStepIn plan.checked) past × AllByRecursion (IsStepIn plan.checked) rest
 steps_at steps plan past rest known h =
     let parts = all_split (IsStepIn plan.checked) (reverse past) rest (subst (AllByRecursion (IsStepIn plan.checked)) (sym h.trace)

@@ -18,10 +18,10 @@ use Rattle.plan_run.specs.Rows.{IsRunPlan, RunPlan, phases_in, run_in, scene_in}
 use Rattle.plan_run.specs.declared.stage.Stage.TheVariants as stage
 use Rattle.plan_walk.specs.Places.{left_in, present_phase, whole_left}
 use Rattle.chaos_entering.specs.Behind.{stages_behind, stages_go_on}
-use Rattle.chaos_node.specs.Changing.{ChangesRight, changed}
-use Rattle.chaos_entering.specs.Coming.{IsComing, IsRight, KnowsLengths}
+use Rattle.chaos_node.specs.Changing.{ChangesRight, changed_by}
+use Rattle.chaos_entering.specs.Coming.{IsComing, EntersAs, KnowsLengths}
 use Rattle.chaos_node.specs.Inspections.{EndsPhase, HasInspected}
-use Rattle.chaos_entering.specs.Standing.{GoesOnInspecting, Knows, session_in}
+use Rattle.chaos_entering.specs.Standing.{GoesOnInspecting, KnowsInStep, session_in}
 use Rattle.chaos_entering.specs.State.{NodeState, held_of}
 use Rattle.chaos_node.specs.declared.change.Change.{Change}
 use Rattle.chaos_holdings.specs.declared.effect.Effect.TheVariants.{Inspects}
@@ -39,7 +39,7 @@ EntersInspection v i sizes left e =
     → GoesOnInspecting plan past v.state.at.site turn present v.face.me st.holdings.tables i → v.state.holdings.parts ≡ st.holdings.parts
     → v.state.holdings.pages ≡ st.holdings.pages
     → KnowsLengths plan past (Forall v.state.at.site turn) (stage.InLoop present) v.face.me sizes
-    → IsRight plan (left_in plan past (Forall v.state.at.site turn) rest
+    → EntersAs plan (left_in plan past (Forall v.state.at.site turn) rest
     (stage.InLoop present ∷ stages_behind (loop_at (scene_in plan) past v.state.at.site turn) present)) v.face.me e st
 
 -- what it changes
@@ -56,8 +56,8 @@ next_phase_is f (Some x) here l none e = cc
 knows_next : (plan : RunPlan) (t p : ℕ) (st : NodeState) (i : Inspection) (tables : List Stamps) (e : Entered) (next : LoopPhase)
     → OthersStayPrepared → IsRunPlan plan
     → (h : HasInspected plan t p st i tables) → phase_of i.stage ≡ Some next
-    → Knows (scene_in plan) (run_in plan) h.past (Forall st.at.site h.turn) (stage.InLoop next) p
-    (held_of (changed st (goes_on_with tables e)))
+    → KnowsInStep (scene_in plan) (run_in plan) h.past (Forall st.at.site h.turn) (stage.InLoop next) p
+    (held_of (changed_by st (goes_on_with tables e)))
 knows_next plan t p st i tables e next others is h there =
     let s = scene_in plan in
     let k = h.in_step.knows in
@@ -89,14 +89,14 @@ inspection_goes_on v i tables e left others ends passes goes falls enters plan t
     h : HasInspected plan t p v.state i tables
     h = ends plan t p is less row holds
 
-    by : (o : Option LoopPhase) → phase_of i.stage ≡ o → is_some o ≡ true → IsRight plan (drop (t + 1) (phases_in plan)) p e
-        (changed v.state (goes_on_with tables e))
+    by : (o : Option LoopPhase) → phase_of i.stage ≡ o → is_some o ≡ true → EntersAs plan (drop (t + 1) (phases_in plan)) p e
+        (changed_by v.state (goes_on_with tables e))
     by None there some = cc
     by (Some next) there some =
         let s = scene_in plan in
         let step = Forall v.state.at.site h.turn in
         let f = loop_at s h.past v.state.at.site h.turn in
-        let st = changed v.state (goes_on_with tables e) in
+        let st = changed_by v.state (goes_on_with tables e) in
         let here = next_phase_is f (offence_in i.stage) (phase_of i.stage) h.present passes h.next in
         let after : phase_after f h.present ≡ Some next = sym here ∙ there in
         let stages = stages_go_on f h.present next after in
@@ -123,8 +123,8 @@ inspection_goes_on v i tables e left others ends passes goes falls enters plan t
         } in
         let lengths = lengths_behind plan h.past v.state.at.site h.turn h.present next p v.state.at.sizes after h.sizes in
         let me : p ≡ v.face.me = sym past.me in
-        subst (λ phases. IsRight plan phases p e st) (sym (past.behind ∙ ap (left_in plan h.past step h.rest) stages))
-        (subst (λ q. IsRight plan (left_in plan h.past step h.rest (stage.InLoop next ∷ stages_behind f next)) q e st) past.me
+        subst (λ phases. EntersAs plan phases p e st) (sym (past.behind ∙ ap (left_in plan h.past step h.rest) stages))
+        (subst (λ q. EntersAs plan (left_in plan h.past step h.rest (stage.InLoop next ∷ stages_behind f next)) q e st) past.me
         (enters plan h.past h.rest h.turn next st is h.session h.in_step.execution
         (subst (λ q. IsComing plan h.past step h.rest (stage.InLoop next) (stages_behind f next) q left st) me coming)
         (subst (λ q. GoesOnInspecting plan h.past v.state.at.site h.turn next q tables i) me goes_on)

@@ -29,7 +29,7 @@ use Rattle.chaos_inspect.specs.declared.inspection.Inspection.{Inspection}
 use Rattle.chaos_inspect.specs.declared.stage.Stage.{Stage as InspectStage}
 use Rattle.chaos_inspect.specs.declared.stage.Stage.TheVariants.{Seeking, Telling, Fetching, Answering, Voting, Refused as Stopped, Homing}
 use Rattle.chaos_inspect.specs.declared.stage.Stage.TheVariants.{Entered as Put, Ready}
-use Rattle.plan_tables.specs.Tables.{IsEntered, slots_of}
+use Rattle.plan_tables.specs.Tables.{IsEntered, slots_entered}
 use Rattle.chaos_sched.specs.declared.prepared.Prepared.{Prepared}
 use Rattle.plan_run.specs.Held.{EachLoop, IsInspected, KeepsInStep}
 use Rattle.plan_run.specs.InspectionLaws.{inspection_ends}
@@ -40,8 +40,8 @@ use Rattle.plan_run.specs.declared.stage.Stage.TheVariants as stage
 use Rattle.plan_walk.specs.Places.{left_in, present_phase, whole_left}
 use Rattle.plan_walk.specs.StepEnds.{run_starts}
 use Rattle.chaos_entering.specs.Behind.{stages_behind, stages_end}
-use Rattle.chaos_node.specs.Changing.{ChangesRight, changed}
-use Rattle.chaos_entering.specs.Coming.{IsComing, IsRight}
+use Rattle.chaos_node.specs.Changing.{ChangesRight, changed_by}
+use Rattle.chaos_entering.specs.Coming.{IsComing, EntersAs}
 use Rattle.chaos_node.specs.Inspections.{EndsPhase, HasInspected}
 use Rattle.chaos_holdings.specs.Keeping.{prepared_by, prepared_in}
 use Rattle.chaos_entering.specs.Standing.{session_in}
@@ -63,7 +63,7 @@ EntersGather v prepared left e =
     → is_empty_turn turn ≡ false → prepared_in st.holdings.kept v.state.at.site ≡ Some prepared
     → CanExecute (scene_in plan) past v.state.at.site turn v.face.me st.holdings.tables prepared
     → v.state.holdings.parts ≡ st.holdings.parts
-    → IsRight plan (left_in plan past (Forall v.state.at.site turn) rest (stage.InLoop phase.Gather ∷ stage.InLoop phase.Scatter ∷ []))
+    → EntersAs plan (left_in plan past (Forall v.state.at.site turn) rest (stage.InLoop phase.Gather ∷ stage.InLoop phase.Scatter ∷ []))
     v.face.me e st
 
 abbrev kept_of : LoopRecord → Prepared → Kept
@@ -125,11 +125,11 @@ steps_of c (step ∷ steps) h = (step_of c step h.0, steps_of c steps h.1)
 abbrev pub IsMade : Inspection → Prepared → Type 0
 IsMade i prepared =
     (owners : List (List ℕ)) (store : List (List ℤ)) (tables : List Stamps) → IsInspecting i owners store tables
-    → Fits i.facts owners store (slots_of i.facts tables) i.me prepared × IsEntered i.facts owners store i.me tables
+    → Fits i.facts owners store (slots_entered i.facts tables) i.me prepared × IsEntered i.facts owners store i.me tables
 
 inspected_now : (i : Inspection) (f : LoopFacts) (owners : List (List ℕ)) (store : List (List ℤ)) (p : ℕ) (tables : List Stamps)
     (prepared : Prepared) → i.facts ≡ f → i.me ≡ p
-    → Fits i.facts owners store (slots_of i.facts tables) i.me prepared × IsEntered i.facts owners store i.me tables
+    → Fits i.facts owners store (slots_entered i.facts tables) i.me prepared × IsEntered i.facts owners store i.me tables
     → IsInspected f owners store p tables prepared
 inspected_now i f owners store p tables prepared same me h =
     subst (λ (g : LoopFacts). IsInspected g owners store p tables prepared) same
@@ -155,7 +155,7 @@ inspection_is_over v i tables latest prepared e left others exact steps ends pas
     let f = loop_at s h.past site h.turn in
     let owners = owners_at s h.past in
     let store = store_at s h.past in
-    let st = changed v.state (keeps_with tables latest prepared e) in
+    let st = changed_by v.state (keeps_with tables latest prepared e) in
     let k = h.in_step.knows in
     let after : phase_after f h.present ≡ None = sym (next_phase_is f (offence_in i.stage) (phase_of i.stage) h.present passes h.next)
     ∙ over in
@@ -212,8 +212,8 @@ inspection_is_over v i tables latest prepared e left others exact steps ends pas
     let there = kept_there plan.checked (KeepsInStep s (run_in plan) h.past step (stage.InLoop h.present) p v.state.holdings.tables)
     v.state.holdings.kept site latest prepared k.keeps h.known in
     let me : p ≡ v.face.me = sym past.me in
-    subst (λ phases. IsRight plan phases p e st) (sym (past.behind ∙ ap (left_in plan h.past step h.rest) stages))
-    (subst (λ q. IsRight plan (left_in plan h.past step h.rest (stage.InLoop phase.Gather ∷ stage.InLoop phase.Scatter ∷ [])) q e st)
+    subst (λ phases. EntersAs plan phases p e st) (sym (past.behind ∙ ap (left_in plan h.past step h.rest) stages))
+    (subst (λ q. EntersAs plan (left_in plan h.past step h.rest (stage.InLoop phase.Gather ∷ stage.InLoop phase.Scatter ∷ [])) q e st)
     past.me
     (enters plan h.past h.rest h.turn st is h.session h.in_step.execution
     (subst (λ q. IsComing plan h.past step h.rest (stage.InLoop phase.Gather) (stage.InLoop phase.Scatter ∷ []) q left st) me coming)

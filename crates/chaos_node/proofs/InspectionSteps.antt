@@ -35,11 +35,11 @@ use Rattle.chaos_inspect.specs.declared.stage.Stage.TheVariants.{Entered as Put,
 use Rattle.plan_run.specs.Held.{EachLoop, KeepsInStep, KeepsLoop, is_executing}
 use Rattle.plan_run.specs.InspectionLaws.{OthersStayInspected}
 use Rattle.plan_run.specs.KeptLaws.{differ}
-use Rattle.plan_run.specs.OwnerLaws.{same_number}
+use Rattle.plan_run.specs.OwnerLaws.{equals_itself}
 use Rattle.plan_run.specs.Phases.{Phase, cut_phases, is_free, numbers_at}
 use Rattle.fd_program.specs.Reports.{completed_of}
 use Rattle.plan_run.specs.Rows.{RunPlan, node_row, phases_in, run_in, scene_in}
-use Rattle.plan_run.specs.StandLaws.{zip_weaker}
+use Rattle.fd_program.specs.AmongLaws.{zip_weaker}
 use Rattle.plan_run.specs.TableLaws.{tables_keep_loops}
 use Rattle.plan_run.specs.declared.kept.Kept.{Kept}
 use Rattle.plan_run.specs.declared.stage.Stage.{Stage}
@@ -47,7 +47,7 @@ use Rattle.plan_run.specs.declared.stage.Stage.TheVariants as stage
 use Rattle.plan_walk.specs.LetterLaws.{index_values_are_known, place_answers_are_known}
 use Rattle.plan_walk.specs.Letters.{number_in}
 use Rattle.plan_walk.specs.PhaseBegins.{phases_follow, rows_follow, votes_pass}
-use Rattle.plan_walk.specs.Places.{StandsBefore, left_in, present_phase, whole_in}
+use Rattle.plan_walk.specs.Places.{StandsBetween, left_in, present_phase, whole_in}
 use Rattle.chaos_entering.specs.Coming.{KnowsLengths}
 
 -- ---- plain facts
@@ -144,7 +144,7 @@ vote_passes s past site turn x tables same next hand =
 
 -- behind a phase those of the other stages follow, unless the FORALL is refused at it
 pub left_passes : (plan : RunPlan) (past : List Step) (site : ℕ) (turn : LoopTurn) (rest : List Step) (l : LoopPhase) (stages : List Stage)
-    → StandsBefore plan past (Forall site turn ∷ rest)
+    → StandsBetween plan past (Forall site turn ∷ rest)
     → (l ≡ phase.Vote → refusal_of plan.checked (Forall site turn) (store_at (scene_in plan) past) ≡ None)
     → left_in plan past (Forall site turn) rest (stage.InLoop l ∷ stages)
     ≡ present_phase plan past (Forall site turn) rest (stage.InLoop l) stages ∷ left_in plan past (Forall site turn) rest stages
@@ -216,7 +216,7 @@ keeps_from_phase s run past site turn l next p before after kept inspects first 
         → KeptEarly s past site turn next p after k x ((site == k) && inspects_at s.checked past site turn)
     by k x (inl same) held =
         let it : ((site == k) && inspects_at s.checked past site turn) ≡ true
-        = ap (λ b. b && inspects_at s.checked past site turn) (subst (λ n. (site == n) ≡ true) same (same_number site)) ∙ inspects in
+        = ap (λ b. b && inspects_at s.checked past site turn) (subst (λ n. (site == n) ≡ true) same (equals_itself site)) ∙ inspects in
         subst (λ b. KeptEarly s past site turn next p after k x b) (sym it)
         (subst (λ b. MatchBool b (KeepsLoop s (Forall site turn ∷ past) k p after x) (x ≡ None)) (sym second)
         (subst (λ b. MatchBool b (KeepsLoop s (Forall site turn ∷ past) k p before x) (x ≡ None)) first

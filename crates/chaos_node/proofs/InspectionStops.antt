@@ -31,8 +31,8 @@ use Rattle.plan_run.specs.declared.stage.Stage.TheVariants as stage
 use Rattle.plan_walk.specs.PhaseBegins.{StopsAtVote, phases_are_counted, votes_stop}
 use Rattle.plan_walk.specs.Places.{left_in, outputs_left, present_phase, whole_from}
 use Rattle.chaos_entering.specs.Behind.{stages_behind}
-use Rattle.chaos_node.specs.Changing.{ChangesRight, changed}
-use Rattle.chaos_entering.specs.Coming.{IsBehindSteps, IsRight}
+use Rattle.chaos_node.specs.Changing.{ChangesRight, changed_by}
+use Rattle.chaos_entering.specs.Coming.{IsBehindSteps, EntersAs}
 use Rattle.chaos_node.specs.Inspections.{EndsPhase, HasInspected}
 use Rattle.chaos_entering.specs.Standing.{KnowsBehind, session_in}
 use Rattle.chaos_entering.specs.State.{NodeState, held_of}
@@ -47,7 +47,7 @@ abbrev pub EntersOutput : View NodeState → ℕ → Entered → Type 0
 EntersOutput v left e =
     (plan : RunPlan) (st : NodeState) → IsRunPlan plan → v.state.session ≡ session_in plan → IsBehindSteps plan 0 v.face.me left st
     → v.state.holdings.elements ≡ st.holdings.elements → v.state.holdings.parts ≡ st.holdings.parts
-    → IsRight plan (outputs_left plan (completed_of (run_in plan)) 0 (drop 0 plan.checked.outputs)) v.face.me e st
+    → EntersAs plan (outputs_left plan (completed_of (run_in plan)) 0 (drop 0 plan.checked.outputs)) v.face.me e st
 
 -- what it changes
 abbrev pub refuses_with : Refused → List ℕ → Entered → Change
@@ -117,7 +117,7 @@ inspection_stops v i tables o line e left ends told line_is left_is enters plan 
     let step = Forall site h.turn in
     let r = refused_here site o in
     let stages = stages_behind (loop_at s h.past site h.turn) h.present in
-    let st = changed v.state (refuses_with r line e) in
+    let st = changed_by v.state (refuses_with r line e) in
     let k = h.in_step.knows in
     let vote : h.present ≡ phase.Vote = h.votes (ap (λ (o : Option Offence). is_some o) told) in
     let refusal = refusal_is s h.past site h.turn i o h.facts h.some (told_offence i (owners_at s h.past) (store_at s h.past) tables
@@ -160,7 +160,7 @@ inspection_stops v i tables o line e left ends told line_is left_is enters plan 
       left_is = left_now;
       knows = subst (λ steps. KnowsBehind s run steps 0 p (held_of st)) (sym stop.completed) knows;
     } in
-    subst (λ phases. IsRight plan phases p e st) (sym (past.behind ∙ ap (λ steps. outputs_left plan steps 0 plan.checked.outputs)
+    subst (λ phases. EntersAs plan phases p e st) (sym (past.behind ∙ ap (λ steps. outputs_left plan steps 0 plan.checked.outputs)
     (sym stop.completed)))
-    (subst (λ q. IsRight plan (outputs_left plan (completed_of run) 0 plan.checked.outputs) q e st) past.me
+    (subst (λ q. EntersAs plan (outputs_left plan (completed_of run) 0 plan.checked.outputs) q e st) past.me
     (enters plan st is h.session (subst (λ q. IsBehindSteps plan 0 q left st) (sym past.me) behind) refl refl))

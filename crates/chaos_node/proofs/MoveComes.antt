@@ -17,7 +17,7 @@ use Rattle.plan_walk.specs.LetterLaws.{letters_come_in, own_list_is_put_in}
 use Rattle.plan_walk.specs.Letters.{numbers_of, put_in}
 use Rattle.plan_walk.specs.PhaseBegins.{phases_follow}
 use Rattle.plan_walk.specs.Places.{left_in, present_phase}
-use Rattle.chaos_entering.specs.Standing.{IsInStep, IsMove, IsPlace}
+use Rattle.chaos_entering.specs.Standing.{StandsInStep, IsMove, IsPlace}
 use Rattle.chaos_entering.specs.State.{NodeState}
 use Rattle.chaos_entering.specs.declared.activity.Activity.TheVariants.{Moving as Moves}
 use Rattle.chaos_node.specs.Changing.{ChangesRight}
@@ -69,7 +69,7 @@ stage_ends v x m taken at is share form left goes plan t p run less row holds =
       before = x.stage;
       stage = h.stage;
       session = holds.session;
-      in_step = subst (λ l. IsInStep plan (drop t (phases_in plan)) h.past step h.rest h.stage l p st) (sym more) h.in_step;
+      in_step = subst (λ l. StandsInStep plan (drop t (phases_in plan)) h.past step h.rest h.stage l p st) (sym more) h.in_step;
       sizes = h.sizes;
       from = g.left ∙ ap (λ l. h.stage ∷ l) (sym more);
       repeats = g.repeats;

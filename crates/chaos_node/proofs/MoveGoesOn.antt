@@ -12,12 +12,12 @@ use Rattle.plan_run.specs.Rows.{IsRunPlan, RunPlan, phases_in, run_in, scene_in}
 use Rattle.plan_run.specs.declared.stage.Stage.{Stage}
 use Rattle.plan_walk.specs.PhaseBegins.{phases_follow}
 use Rattle.plan_walk.specs.Places.{left_in, present_phase, whole_left}
-use Rattle.chaos_entering.specs.Coming.{IsComing, IsRight, KnowsLengths}
-use Rattle.chaos_entering.specs.Standing.{GoesOnMoving, Knows, session_in}
+use Rattle.chaos_entering.specs.Coming.{IsComing, EntersAs, KnowsLengths}
+use Rattle.chaos_entering.specs.Standing.{GoesOnMoving, KnowsInStep, session_in}
 use Rattle.chaos_entering.specs.State.{NodeState, held_of}
 use Rattle.chaos_entering.specs.declared.entered.Entered.{Entered}
 use Rattle.chaos_holdings.specs.declared.effect.Effect.TheVariants.{Nothing}
-use Rattle.chaos_node.specs.Changing.{ChangesRight, changed}
+use Rattle.chaos_node.specs.Changing.{ChangesRight, changed_by}
 use Rattle.chaos_node.specs.Moves.{EndsStage, HasGoneOn}
 use Rattle.chaos_node.specs.declared.change.Change.{Change}
 use Rattle.chaos_node.proofs.InspectionSteps.{is_past}
@@ -31,7 +31,7 @@ EntersMove v m sizes left e =
     → v.state.at.execution ≡ length past → IsComing plan past (Distribute m.share.decomposition form) rest now more v.face.me left st
     → GoesOnMoving plan past m.share.decomposition form now more v.face.me m
     → KnowsLengths plan past (Distribute m.share.decomposition form) now v.face.me sizes
-    → IsRight plan (left_in plan past (Distribute m.share.decomposition form) rest (now ∷ more)) v.face.me e st
+    → EntersAs plan (left_in plan past (Distribute m.share.decomposition form) rest (now ∷ more)) v.face.me e st
 
 -- what it changes
 abbrev pub only_enters : Entered → Change
@@ -49,15 +49,15 @@ move_goes_on v m e left ends goes falls enters plan t p is less row holds = by (
     h : HasGoneOn plan t p v.state m
     h = ends plan t p is less row holds
 
-    by : (l : List Stage) → stages_left m.stage ≡ l → is_some (slice_get l 0) ≡ true → IsRight plan (drop (t + 1) (phases_in plan)) p e
-        (changed v.state (only_enters e))
+    by : (l : List Stage) → stages_left m.stage ≡ l → is_some (slice_get l 0) ≡ true → EntersAs plan (drop (t + 1) (phases_in plan)) p e
+        (changed_by v.state (only_enters e))
     by [] there some = cc
     by (now ∷ more) there some =
         let s = scene_in plan in
         let site = v.state.at.site in
         let d = m.share.decomposition in
         let step = Distribute site h.form in
-        let st = changed v.state (only_enters e) in
+        let st = changed_by v.state (only_enters e) in
         let plain = moving_is_plain h.before h.stage (stages_left m.stage) h.from in
         let next = moving_is_plain m.stage now more there in
         let from : stages_left h.before ≡ h.stage ∷ now ∷ more = h.from ∙ ap (λ l. h.stage ∷ l) there in
@@ -65,8 +65,8 @@ move_goes_on v m e left ends goes falls enters plan t p is less row holds = by (
         let past = is_past plan t p (present_phase plan h.past step h.rest h.stage (stages_left m.stage))
         (left_in plan h.past step h.rest (stages_left m.stage)) v.face row
         (h.in_step.phases_are ∙ left_is) in
-        let knows : Knows s (run_in plan) h.past step now p (held_of st) =
-        subst (λ text. Knows s (run_in plan) h.past step now p (with_text (held_of v.state) text)) (sym (append-nil v.state.text))
+        let knows : KnowsInStep s (run_in plan) h.past step now p (held_of st) =
+        subst (λ text. KnowsInStep s (run_in plan) h.past step now p (with_text (held_of v.state) text)) (sym (append-nil v.state.text))
         (knows_goes_on s (run_in plan) h.past step h.stage now p (held_of v.state) plain next h.in_step.knows) in
         let coming : IsComing plan h.past step h.rest now more p left st = record {
           session = h.session;
@@ -87,9 +87,9 @@ move_goes_on v m e left ends goes falls enters plan t p is less row holds = by (
         let lengths = move_lengths plan h.past site h.form p v.state.at.sizes h.before h.stage now more from h.sizes in
         let me : p ≡ v.face.me = sym past.me in
         let same : site ≡ d = sym h.decomposition in
-        subst (λ phases. IsRight plan phases p e st) (sym (past.behind ∙ ap (left_in plan h.past step h.rest) there))
-        (subst (λ q. IsRight plan (left_in plan h.past step h.rest (now ∷ more)) q e st) past.me
-        (subst (λ n. IsRight plan (left_in plan h.past (Distribute n h.form) h.rest (now ∷ more)) v.face.me e st) h.decomposition
+        subst (λ phases. EntersAs plan phases p e st) (sym (past.behind ∙ ap (left_in plan h.past step h.rest) there))
+        (subst (λ q. EntersAs plan (left_in plan h.past step h.rest (now ∷ more)) q e st) past.me
+        (subst (λ n. EntersAs plan (left_in plan h.past (Distribute n h.form) h.rest (now ∷ more)) v.face.me e st) h.decomposition
         (enters plan h.past h.rest h.form now more st is h.session h.in_step.execution
         (subst (λ n. IsComing plan h.past (Distribute n h.form) h.rest now more v.face.me left st) same
         (subst (λ q. IsComing plan h.past step h.rest now more q left st) me coming))

@@ -21,7 +21,7 @@ use Rattle.fd_program.specs.declared.loop_record.LoopRecord.{LoopRecord}
 use Rattle.fd_program.specs.declared.trace.Step.{Step}
 use Rattle.chaos_holdings.specs.Keeping.{prepared_by, prepared_in}
 use Rattle.chaos_holdings.specs.Parts.{parts_with}
-use Rattle.plan_run.specs.Held.{elements_of}
+use Rattle.plan_run.specs.Held.{elements_held}
 use Rattle.plan_run.specs.Phases.{arrays_in}
 use Rattle.plan_run.specs.StandLaws.{IsDropped}
 use Rattle.plan_run.specs.TableLaws.{is_named_in, left_of_move, without_inspection}
@@ -82,8 +82,8 @@ length_map f (x ∷ xs) = ap suc (length_map f xs)
 
 pub elements_moved : (s : Scene) (past after : List Step) (d p : ℕ)
     → ((e : ℕ) → d ≢ e → list_at (owners_at s after) e ≡ list_at (owners_at s past) e)
-    → slice_set (elements_of (owners_at s past) p) d (map pos (elements_on (list_at (owners_at s after) d) p))
-    ≡ elements_of (owners_at s after) p
+    → slice_set (elements_held (owners_at s past) p) d (map pos (elements_on (list_at (owners_at s after) d) p))
+    ≡ elements_held (owners_at s after) p
 elements_moved s past after d p others =
     lists_set (λ o. map pos (elements_on o p)) (owners_at s past) (owners_at s after) d
     (length_map _ (enumerate_from 0 s.checked.layouts) ∙ sym (length_map _ (enumerate_from 0 s.checked.layouts))) others

@@ -16,7 +16,7 @@ use Rattle.fd_program.specs.declared.trace.Step.TheVariants.{Distribute}
 use Rattle.chaos_begin.specs.declared.between.Between.{Between}
 use Rattle.fd_program.specs.StepLaws.{IsStepIn, StepsAreIn}
 use Rattle.chaos_moving.specs.InRun.{owners_after}
-use Rattle.chaos_moving.specs.IsMoving.{HasMoved, IsMoving}
+use Rattle.chaos_moving.specs.IsMoving.{HasMovedTo, IsMoving}
 use Rattle.chaos_moving.specs.Stages.{left_in as stages_left, stage_in}
 use Rattle.chaos_moving.specs.declared.moving.Moved.{Moved}
 use Rattle.chaos_moving.specs.declared.moving.Moving.{Moving}
@@ -25,7 +25,7 @@ use Rattle.chaos_records.specs.KeepingLaws.{MoveKeeps, VersionsAreFew}
 use Rattle.chaos_records.specs.Numbering.{get_below}
 use Rattle.chaos_records.specs.declared.records.Records.{Records}
 use Rattle.chaos_records.specs.declared.setting.Setting.{Setting}
-use Rattle.plan_run.specs.Held.{EachLoop, KeepsInStep, KeepsLoop, elements_of, lines_of, text_on}
+use Rattle.plan_run.specs.Held.{EachLoop, KeepsInStep, KeepsLoop, elements_held, lines_of, text_on}
 use Rattle.plan_run.specs.OwnerLaws.{move_changes_one}
 use Rattle.plan_run.specs.Rows.{IsRunPlan, RunPlan, phases_in, run_in, scene_in}
 use Rattle.plan_run.specs.StandLaws.{EndsMove, move_stands}
@@ -35,7 +35,7 @@ use Rattle.plan_walk.specs.PhaseBegins.{phases_follow}
 use Rattle.plan_walk.specs.Places.{left_from, left_in, present_phase, whole_from, whole_left}
 use Rattle.plan_walk.specs.StepEnds.{steps_are_known, steps_end}
 use Rattle.chaos_table.specs.declared.pages.Pages.{Pages}
-use Rattle.chaos_entering.specs.Coming.{Covers, IsHere, IsNext, IsRight}
+use Rattle.chaos_entering.specs.Coming.{Covers, IsHere, ComesNext, EntersAs}
 use Rattle.chaos_entering.specs.Standing.{HasCome, session_in}
 use Rattle.chaos_entering.specs.State.{NodeState, held_of}
 use Rattle.chaos_entering.specs.declared.entered.Entered.{Entered}
@@ -43,7 +43,7 @@ use Rattle.chaos_holdings.specs.Keeping.{with_given_up}
 use Rattle.chaos_holdings.specs.Parts.{parts_with}
 use Rattle.chaos_holdings.specs.declared.effect.Effect.TheVariants.{Moves}
 use Rattle.chaos_holdings.specs.declared.session.Session.{Session}
-use Rattle.chaos_node.specs.Changing.{ChangesRight, changed}
+use Rattle.chaos_node.specs.Changing.{ChangesRight, changed_by}
 use Rattle.chaos_node.specs.Ends.{LooksWith}
 use Rattle.chaos_node.specs.Moves.{EndsStage, HasGoneOn}
 use Rattle.chaos_node.specs.declared.change.Change.{Change}
@@ -58,8 +58,8 @@ use Rattle.chaos_node.proofs.MoveSteps.{keeps_in_move, moving_is_plain}
 abbrev pub EntersBehind : View NodeState → Between → List (Option Pages) → ℕ → ℕ → Entered → Type 0
 EntersBehind v b pages number left e =
     (plan : RunPlan) (past rest : List Step) (after : NodeState) → IsRunPlan plan → v.state.session ≡ session_in plan → number ≡ length past
-    → IsHere plan b (held_of after) → pages ≡ after.holdings.pages → IsNext plan past rest b.me left after
-    → IsRight plan (left_from plan past rest) b.me e after
+    → IsHere plan b (held_of after) → pages ≡ after.holdings.pages → ComesNext plan past rest b.me left after
+    → EntersAs plan (left_from plan past rest) b.me e after
 
 -- what it changes
 abbrev pub moves_with : ℕ → Moved → List (List ℤ) → Records → Entered → Change
@@ -69,7 +69,7 @@ moves_with d x parts records e = record { effect = Moves d x parts records; line
 abbrev pub IsFinished : Moving → Moved → Type 0
 IsFinished m x =
     (s : Scene) (owners : List (List ℕ)) (store : List (List ℤ)) (new : List ℕ) → IsMoving m s owners store new
-    → HasMoved x s store m.share.decomposition m.form new m.share.me
+    → HasMovedTo x s store m.share.decomposition m.form new m.share.me
 
 -- the records with the move noted, where it is one of the decompositions and was moved so few times
 abbrev pub NotesMove : Records → ℕ → StepForm → Records → Type 0
@@ -130,9 +130,9 @@ move_is_over v m x elements parts records pages b number left e moves few steps 
     let d = m.share.decomposition in
     let step = Distribute site h.form in
     let after = step ∷ h.past in
-    let st = changed v.state (moves_with d x parts records e) in
-    let now = changed v.state (moves_with site x parts records e) in
-    let same_state : st ≡ now = ap (λ n. changed v.state (moves_with n x parts records e)) h.decomposition in
+    let st = changed_by v.state (moves_with d x parts records e) in
+    let now = changed_by v.state (moves_with site x parts records e) in
+    let same_state : st ≡ now = ap (λ n. changed_by v.state (moves_with n x parts records e)) h.decomposition in
     let plain = moving_is_plain h.before h.stage (stages_left m.stage) h.from in
     let last : stages_left m.stage ≡ [] = none_left (stages_left m.stage) over in
     let left_is = phases_follow plan h.past step h.rest h.stage (stages_left m.stage) plain.votes in
@@ -146,10 +146,10 @@ move_is_over v m x elements parts records pages b number left e moves few steps 
     let short : length h.past ≤ 20000 = omega (arith, counted.count, is.within.steps) in
     let known : IsStepIn c step = (steps_at steps plan h.past (step ∷ h.rest) is.checked places).1.0 in
     let one = move_changes_one s h.past site h.form in
-    let done : HasMoved x s (store_at s h.past) site h.form (owners_after s h.past site h.form) p =
-    subst (λ n. HasMoved x s (store_at s h.past) n h.form (owners_after s h.past site h.form) p) h.decomposition
-    (subst (λ f. HasMoved x s (store_at s h.past) d f (owners_after s h.past site h.form) p) h.by
-    (subst (λ q. HasMoved x s (store_at s h.past) d m.form (owners_after s h.past site h.form) q) h.node
+    let done : HasMovedTo x s (store_at s h.past) site h.form (owners_after s h.past site h.form) p =
+    subst (λ n. HasMovedTo x s (store_at s h.past) n h.form (owners_after s h.past site h.form) p) h.decomposition
+    (subst (λ f. HasMovedTo x s (store_at s h.past) d f (owners_after s h.past site h.form) p) h.by
+    (subst (λ q. HasMovedTo x s (store_at s h.past) d m.form (owners_after s h.past site h.form) q) h.node
     (finished s (owners_at s h.past) (store_at s h.past) (owners_after s h.past site h.form) h.moving))) in
     let parts_now : parts ≡ parts_of c.arrays (owners_at s after) (store_at s h.past) p =
     parts_are ∙ ap (λ n. parts_with v.state.session.checked.arrays n v.state.holdings.parts x.pieces) h.decomposition
@@ -158,9 +158,9 @@ move_is_over v m x elements parts records pages b number left e moves few steps 
     ∙ ap (λ l. parts_with c.arrays site (parts_of c.arrays (owners_at s h.past) (store_at s h.past) p) l)
     (done.parts (owners_at s after) refl)
     ∙ parts_moved c (owners_at s h.past) (owners_at s after) (store_at s h.past) site p one.others in
-    let elements_now : slice_set v.state.holdings.elements site x.elements ≡ elements_of (owners_at s after) p =
+    let elements_now : slice_set v.state.holdings.elements site x.elements ≡ elements_held (owners_at s after) p =
     ap (λ l. slice_set l site x.elements) k.stands.elements
-    ∙ ap (λ (l : List ℤ). slice_set (elements_of (owners_at s h.past) p) site l) done.mine
+    ∙ ap (λ (l : List ℤ). slice_set (elements_held (owners_at s h.past) p) site l) done.mine
     ∙ elements_moved s h.past after site p one.others in
     let noted = records_moved c h.past site h.form v.state.holdings.records records moves few k.stands.records known short
     (subst (λ f. NotesMove v.state.holdings.records site f records) h.by (subst (λ n. NotesMove v.state.holdings.records n m.form records)
@@ -190,7 +190,7 @@ move_is_over v m x elements parts records pages b number left e moves few steps 
       refused = k.refused ∙ plain.refused (run_in plan);
       sized = length_set v.state.holdings.tables site _ ∙ k.sized;
     } in
-    let next : IsNext plan after h.rest p left now = record {
+    let next : ComesNext plan after h.rest p left now = record {
       session = h.session;
       node = less;
       come = come;
@@ -215,11 +215,11 @@ move_is_over v m x elements parts records pages b number left e moves few steps 
     } in
     let me : b.me ≡ p = look.node ∙ past.me in
     let pages_now : pages ≡ now.holdings.pages = pages_are ∙ ap (λ n. slice_set v.state.holdings.pages n x.page) h.decomposition in
-    let right = enters plan after h.rest now is h.session numbered here pages_now (subst (λ n. IsNext plan after h.rest n left now)
+    let right = enters plan after h.rest now is h.session numbered here pages_now (subst (λ n. ComesNext plan after h.rest n left now)
     (sym me) next) in
-    subst (λ z. IsRight plan (drop (t + 1) (phases_in plan)) p e z) (sym same_state)
-    (subst (λ fs. IsRight plan fs p e now) (sym (past.behind ∙ ap (left_in plan h.past step h.rest) last ∙ stands_behind.left))
-    (subst (λ n. IsRight plan (left_from plan after h.rest) n e now) me right))
+    subst (λ z. EntersAs plan (drop (t + 1) (phases_in plan)) p e z) (sym same_state)
+    (subst (λ fs. EntersAs plan fs p e now) (sym (past.behind ∙ ap (left_in plan h.past step h.rest) last ∙ stands_behind.left))
+    (subst (λ n. EntersAs plan (left_from plan after h.rest) n e now) me right))
   where
     none_left : (l : List Stage) → slice_get l 0 ≡ None → l ≡ []
     none_left [] h = refl

@@ -14,7 +14,7 @@ use Rattle.plan_run.specs.Held.{Held, KeepsInStep, KeepsLoop, inspected_at, is_e
 use Rattle.plan_run.specs.Held.{text_at, text_on}
 use Rattle.plan_run.specs.Phases.{is_free, is_vote, numbers_at}
 use Rattle.plan_run.specs.Rows.{RunPlan, scene_in}
-use Rattle.plan_run.specs.StandLaws.{zip_weaker}
+use Rattle.fd_program.specs.AmongLaws.{zip_weaker}
 use Rattle.plan_run.specs.declared.kept.Kept.{Kept}
 use Rattle.plan_run.specs.declared.stage.Stage.{Stage}
 use Rattle.plan_run.specs.declared.stage.Stage.TheVariants as stage
@@ -24,7 +24,7 @@ use Rattle.chaos_moving.specs.declared.moving.MovingStage.TheVariants.{Pairing, 
 use Rattle.plan_walk.specs.LetterLaws.{is_for_all, move_answers_are_known, page_counts_are_known}
 use Rattle.plan_walk.specs.Letters.{number_in}
 use Rattle.chaos_entering.specs.Coming.{KnowsLengths}
-use Rattle.chaos_entering.specs.Standing.{Knows}
+use Rattle.chaos_entering.specs.Standing.{KnowsInStep}
 use Rattle.chaos_node.proofs.InspectionSteps.{number_at}
 
 -- ---- the stages of a move
@@ -113,7 +113,7 @@ moving_is_plain (Moved part) now more e = cc
 
 -- from one plain stage of a step to another only the list for itself and what is in hand are new
 pub knows_goes_on : (s : Scene) (run : Run) (past : List Step) (step : Step) (a b : Stage) (p : ℕ) (v : Held) → IsPlainStage a
-    → IsPlainStage b → Knows s run past step a p v → Knows s run past step b p v
+    → IsPlainStage b → KnowsInStep s run past step a p v → KnowsInStep s run past step b p v
 knows_goes_on s run past step a b p v one other h = record {
   stands = h.stands;
   keeps = zip_weaker (KeepsInStep s run past step a p v.tables) (KeepsInStep s run past step b p v.tables) next

@@ -20,7 +20,7 @@ use Rattle.fd_program.specs.declared.trace.Step.{Step}
 use Rattle.fd_program.specs.declared.trace.Step.TheVariants.{Forall}
 use Rattle.chaos_begin.specs.Begins.{latest_kept}
 use Rattle.chaos_begin.specs.declared.between.Between.{Between}
-use Rattle.chaos_count.specs.Counting.{noted}
+use Rattle.chaos_count.specs.Counting.{noted_reference}
 use Rattle.chaos_count.specs.Noting.{targets_are_noted}
 use Rattle.chaos_executing.specs.Counts.{CountsAreReported}
 use Rattle.chaos_executing.specs.InRun.{CanExecute, IsExecuting, owed_at_loop}
@@ -32,14 +32,14 @@ use Rattle.plan_walk.specs.Letters.{numbers_of, put_in}
 use Rattle.plan_walk.specs.PhaseBegins.{phases_follow}
 use Rattle.plan_walk.specs.Places.{left_from, left_in, present_phase, whole_from}
 use Rattle.plan_walk.specs.StepEnds.{EndsStep, steps_are_known, steps_end}
-use Rattle.plan_tables.specs.Tables.{slots_of}
+use Rattle.plan_tables.specs.Tables.{slots_entered}
 use Rattle.chaos_records.specs.Keeping.{Keeps}
 use Rattle.chaos_records.specs.KeepingLaws.{WritesKeep}
 use Rattle.chaos_records.specs.declared.records.Records.{Records}
 use Rattle.plan_run.specs.Held.{lines_of, text_on}
 use Rattle.plan_run.specs.Phases.{Phase, numbers_at}
 use Rattle.plan_run.specs.Rows.{IsRunPlan, RunPlan, phases_in, run_in, scene_in}
-use Rattle.plan_run.specs.StandLaws.{count_in, counted_by, loop_stands}
+use Rattle.plan_run.specs.StandLaws.{counted_at, counted_by, loop_stands}
 use Rattle.plan_run.specs.WithinLaws.{loop_ends}
 use Rattle.plan_run.specs.declared.kept.Kept.{Kept}
 use Rattle.plan_run.specs.declared.stage.Stage.TheVariants as stage
@@ -47,8 +47,8 @@ use Rattle.chaos_sched.specs.declared.prepared.Prepared.{Prepared}
 use Rattle.chaos_table.specs.declared.pages.Pages.{Pages}
 use Rattle.chaos_node.proofs.ExecutionCounts.{counted_same, last_inspects}
 use Rattle.chaos_node.proofs.ExecutionPlaces.{EndsPhase, ends_phase, some_same}
-use Rattle.chaos_node.specs.Changing.{ChangesRight, changed}
-use Rattle.chaos_entering.specs.Coming.{Covers, IsHere, IsNext, IsRight}
+use Rattle.chaos_node.specs.Changing.{ChangesRight, changed_by}
+use Rattle.chaos_entering.specs.Coming.{Covers, IsHere, ComesNext, EntersAs}
 use Rattle.chaos_node.specs.Ends.{LooksWith}
 use Rattle.chaos_holdings.specs.Executions.{counted_with, is_last}
 use Rattle.chaos_node.specs.Executions.{count_behind}
@@ -73,8 +73,8 @@ AppliesRight prepared x taken pieces after =
 abbrev pub EntersNext : Session → Between → List (Option Pages) → ℕ → ℕ → Entered → Type 0
 EntersNext session between pages from left e =
     (plan : RunPlan) (past rest : List Step) (st : NodeState) → IsRunPlan plan → session ≡ session_in plan → from ≡ length past
-    → IsHere plan between (held_of st) → pages ≡ st.holdings.pages → IsNext plan past rest between.me left st
-    → IsRight plan (left_from plan past rest) between.me e st
+    → IsHere plan between (held_of st) → pages ≡ st.holdings.pages → ComesNext plan past rest between.me left st
+    → EntersAs plan (left_from plan past rest) between.me e st
 
 -- ---- nothing else happens
 
@@ -96,7 +96,7 @@ pub record EndsScatter (v : View NodeState) (prepared : Prepared) (x : Executing
   pub less : v.face.left ≡ left + 1
   pub applies : AppliesRight prepared x (put_in v.face.me v.state.at.own (map numbers_of v.face.got)) v.state.holdings.parts parts
   pub noted : v.state.at.execution < 2 ^ 32
-      → records ≡ fold (noted v.state.at.execution) v.state.holdings.records
+      → records ≡ fold (noted_reference v.state.at.execution) v.state.holdings.records
       (site_at v.state.session.checked.sites v.state.at.site).references
   pub count_is : count ≡ count_behind v.state prepared
   pub looks : LooksWith v.state v.face.me v.state.holdings.elements parts records between
@@ -128,8 +128,8 @@ scatter_ends reported writes v prepared x parts records count between from left 
     by (subst (IsPlace plan (drop t (phases_in plan)) p v.state) h.at holds.place)
   where
     by : IsScatter plan (drop t (phases_in plan)) p v.state x
-        → IsRight plan (drop (t + 1) (phases_in plan)) p e
-        (changed v.state (record { effect = Executes parts records count; line = []; entered = e }))
+        → EntersAs plan (drop (t + 1) (phases_in plan)) p e
+        (changed_by v.state (record { effect = Executes parts records count; line = []; entered = e }))
     by g =
         let s = scene_in plan in
         let st = v.state in
@@ -139,7 +139,7 @@ scatter_ends reported writes v prepared x parts records count between from left 
         let scatter = stage.InLoop phase.Scatter in
         let knows = g.in_step.knows in
         let can = g.executing.can in
-        let after = changed st (record { effect = Executes parts records count; line = []; entered = e }) in
+        let after = changed_by st (record { effect = Executes parts records count; line = []; entered = e }) in
         let f = present_phase plan past step g.rest scatter [] in
         let later = left_in plan past step g.rest [] in
         let end : EndsPhase plan t p f later v = ends_phase plan t p f later v is_node row (g.in_step.phases_are
@@ -158,20 +158,21 @@ scatter_ends reported writes v prepared x parts records count between from left 
         ∙ ap (λ own. put_in p own (map numbers_of v.face.got)) g.in_step.own
         ∙ ap (λ got. put_in p (numbers_at s past step scatter p p) (map numbers_of got)) end.got
         ∙ own_list_is_put_in s f p is_node refl in
-        let noted_here : records ≡ fold (noted (length past)) st.holdings.records (site_at plan.checked.sites site).references =
+        let noted_here : records ≡ fold (noted_reference (length past)) st.holdings.records (site_at plan.checked.sites site).references =
         h.noted few_here
-        ∙ ap (λ n. fold (noted n) st.holdings.records (site_at st.session.checked.sites site).references) g.in_step.execution
-        ∙ ap (λ (y : Session). fold (noted (length past)) st.holdings.records (site_at y.checked.sites site).references) holds.session in
+        ∙ ap (λ n. fold (noted_reference n) st.holdings.records (site_at st.session.checked.sites site).references) g.in_step.execution
+        ∙ ap (λ (y : Session). fold (noted_reference (length past)) st.holdings.records (site_at y.checked.sites site).references)
+        holds.session in
         let last : is_last st.inspected st.at.execution ≡ inspects_at plan.checked past site g.turn =
         ap (λ l. is_last l st.at.execution) knows.inspected
         ∙ ap (is_last (map pos (inspecting_of plan.checked (step ∷ past)))) g.in_step.execution
         ∙ last_inspects plan.checked past step in
-        let counted : count ≡ plus_count (count_in st.end.counts site) (counted_by s past site g.turn p) =
+        let counted : count ≡ plus_count (counted_at st.end.counts site) (counted_by s past site g.turn p) =
         h.count_is
-        ∙ ap (λ b. plus_count (count_in st.end.counts site) (counted_with prepared b)) last
-        ∙ ap (plus_count (count_in st.end.counts site))
+        ∙ ap (λ b. plus_count (counted_at st.end.counts site) (counted_with prepared b)) last
+        ∙ ap (plus_count (counted_at st.end.counts site))
         (counted_same reported (loop_at s past site g.turn) (owners_at s past) (store_at s past)
-        (slots_of (loop_at s past site g.turn) st.holdings.tables) p prepared
+        (slots_entered (loop_at s past site g.turn) st.holdings.tables) p prepared
         (inspects_at plan.checked past site g.turn) executing.can.inspected.fits) in
         let come : HasCome plan (step ∷ past) g.rest p (held_of after) = record {
           places = ends.stands;
@@ -191,7 +192,7 @@ scatter_ends reported writes v prepared x parts records count between from left 
           refused = knows.refused;
           sized = knows.sized;
         } in
-        let next : IsNext plan (step ∷ past) g.rest p left after = record {
+        let next : ComesNext plan (step ∷ past) g.rest p left after = record {
           session = holds.session;
           node = is_node;
           come = come;
@@ -207,12 +208,12 @@ scatter_ends reported writes v prepared x parts records count between from left 
           kept = same_kept between.kept.now st.holdings.kept h.looks.kept;
         } in
         let me : between.me ≡ p = h.looks.node ∙ end.me in
-        let right : IsRight plan (left_from plan (step ∷ past) g.rest) between.me e after =
+        let right : EntersAs plan (left_from plan (step ∷ past) g.rest) between.me e after =
         h.enters plan (step ∷ past) g.rest after is holds.session (same_number from (length past) (h.number few_here
         ∙ ap (λ n. n + 1) g.in_step.execution)) here refl
-        (subst (λ q. IsNext plan (step ∷ past) g.rest q left after) (sym me) next) in
-        subst (λ fs. IsRight plan fs p e after) (sym (end.behind ∙ ends.left))
-        (subst (λ q. IsRight plan (left_from plan (step ∷ past) g.rest) q e after) me right)
+        (subst (λ q. ComesNext plan (step ∷ past) g.rest q left after) (sym me) next) in
+        subst (λ fs. EntersAs plan fs p e after) (sym (end.behind ∙ ends.left))
+        (subst (λ q. EntersAs plan (left_from plan (step ∷ past) g.rest) q e after) me right)
       where
         same_left : (n m : ℕ) → n + 1 ≡ m + 1 → n ≡ m
         same_left n m eq = omega (arith, eq)
@@ -228,7 +229,7 @@ pub scatter_seen : CountsAreReported → WritesKeep → (v w : View NodeState) (
     → prepared_in w.state.holdings.kept w.state.at.site ≡ Some prepared → w.face.left ≡ left + 1 → line ≡ []
     → taken ≡ put_in v.face.me v.state.at.own (map numbers_of v.face.got) → AppliesRight prepared x taken v.state.holdings.parts parts
     → sites ≡ v.state.session.checked.sites
-    → (v.state.at.execution < 2 ^ 32 → records ≡ fold (noted v.state.at.execution) v.state.holdings.records
+    → (v.state.at.execution < 2 ^ 32 → records ≡ fold (noted_reference v.state.at.execution) v.state.holdings.records
     (site_at sites v.state.at.site).references)
     → count ≡ count_behind w.state prepared → LooksWith w.state w.face.me v.state.holdings.elements parts records between
     → (w.state.at.execution < 2 ^ 32 → from ≡ w.state.at.execution + 1) → EntersNext v.state.session between v.state.holdings.pages from
@@ -245,10 +246,11 @@ scatter_seen reported writes v w prepared x parts records count between from lef
           y.state.holdings.parts parts) same
           (subst (λ (l : List (List ℤ)). AppliesRight prepared x l v.state.holdings.parts parts) taken_is applies);
       noted = subst (λ (y : View NodeState). y.state.at.execution < 2 ^ 32
-          → records ≡ fold (noted y.state.at.execution) y.state.holdings.records
+          → records ≡ fold (noted_reference y.state.at.execution) y.state.holdings.records
           (site_at y.state.session.checked.sites y.state.at.site).references) same
           (subst (λ (l : List Site). v.state.at.execution < 2 ^ 32
-          → records ≡ fold (noted v.state.at.execution) v.state.holdings.records (site_at l v.state.at.site).references) sites_are notes);
+          → records ≡ fold (noted_reference v.state.at.execution) v.state.holdings.records (site_at l v.state.at.site).references)
+          sites_are notes);
       count_is = count_is;
       looks = subst (λ (y : View NodeState). LooksWith w.state w.face.me y.state.holdings.elements parts records between) same looks;
       number = number;

@@ -19,7 +19,7 @@ use Rattle.chaos_hash.specs.Stamps.{Stamps}
 use Rattle.chaos_hash.specs.declared.held.Held.{Held as Entry}
 use Rattle.plan_tables.specs.Tables.{no_table}
 use Rattle.chaos_records.specs.Keeping.{Keeps as KeepsRecords}
-use Rattle.plan_run.specs.Held.{Held, HasPage, HasPlaces, KeepsLoop, Stands, elements_of, entry_at, lines_of, text_on}
+use Rattle.plan_run.specs.Held.{Held, HasPage, HasPlaces, KeepsLoop, Stands, elements_held, entry_at, lines_of, text_on}
 use Rattle.chaos_count.specs.Counted.{IsCount}
 use Rattle.plan_run.specs.LeftLaws.{phases_few}
 use Rattle.plan_run.specs.Rows.{IsRunPlan, RunPlan, face_left, node_row, phases_in, scene_in}
@@ -28,10 +28,10 @@ use Rattle.plan_run.specs.declared.kept.Kept.{Kept}
 use Rattle.plan_walk.specs.Places.{left_from, whole_from}
 use Rattle.plan_walk.specs.StepEnds.{run_starts}
 use Rattle.bsp_core.specs.Views.{Face}
-use Rattle.chaos_entering.specs.Coming.{Covers, IsNext, IsRight, begun_holdings, entered_state, face_of, noted}
+use Rattle.chaos_entering.specs.Coming.{Covers, ComesNext, EntersAs, begun_holdings, entered_state, face_entered, noted_if}
 use Rattle.chaos_holdings.specs.Keeping.{no_kept}
 use Rattle.chaos_entering.specs.Standing.{HasCome, HoldsAt, node_holds, session_in}
-use Rattle.chaos_holdings.specs.Starting.{IsFirst, block_elements, block_owners, no_pages}
+use Rattle.chaos_holdings.specs.Starting.{HoldsFirst, block_elements, block_owners, no_pages}
 use Rattle.chaos_entering.specs.State.{NodeState, held_of}
 use Rattle.chaos_entering.specs.declared.activity.At.{At}
 use Rattle.chaos_entering.specs.declared.entered.Entered.{Entered}
@@ -73,7 +73,7 @@ owners_from s a [] = refl
 owners_from s a (l ∷ ls) = ap (λ (o : List (List ℕ)). regular_owners Block l.extent s.nodes ∷ o) (owners_from s (a + 1) ls)
 
 elements_from : (nodes : ℕ) (layouts : List LayoutName) (p : ℕ) → block_elements nodes layouts p
-    ≡ elements_of (block_owners nodes layouts) p
+    ≡ elements_held (block_owners nodes layouts) p
 elements_from nodes [] p = refl
 elements_from nodes (l ∷ ls) p = ap (λ (es : List (List ℤ)). map pos (elements_on (regular_owners Block l.extent nodes) p) ∷ es)
     (elements_from nodes ls p)
@@ -101,7 +101,7 @@ pub record EndsNew (s : Session) (e : NodeEnd) : Type 0 where
   pub refused : e.refused ≡ None
   pub counts : e.counts ≡ replicate (length s.checked.sites) no_count
 
-stands_first : (plan : RunPlan) (p : ℕ) (own : List (List ℤ)) (at : At) (h : Holdings) (e : NodeEnd) → IsFirst (session_in plan) p own h
+stands_first : (plan : RunPlan) (p : ℕ) (own : List (List ℤ)) (at : At) (h : Holdings) (e : NodeEnd) → HoldsFirst (session_in plan) p own h
     → EndsNew (session_in plan) e
     → own ≡ parts_of plan.checked.arrays (block_owners plan.nodes plan.checked.layouts) plan.store p
     → Stands (scene_in plan) [] p (held_of (state_first (session_in plan) at h e))
@@ -112,7 +112,7 @@ stands_first plan p own at h e first new is =
     record {
       parts = first.parts ∙ is ∙ ap (λ o. parts_of plan.checked.arrays o plan.store p) (sym owners)
           ∙ ap (λ store. parts_of plan.checked.arrays (owners_at s []) store p) (sym (run_starts plan).store);
-      elements = first.elements ∙ elements_from plan.nodes plan.checked.layouts p ∙ ap (λ o. elements_of o p) (sym owners);
+      elements = first.elements ∙ elements_from plan.nodes plan.checked.layouts p ∙ ap (λ o. elements_held o p) (sym owners);
       records = subst (KeepsRecords plan.checked []) (sym first.records) (start_stands s p).records;
       pages = subst (λ pages. AllZip (λ d page. HasPage s.nodes p (form_at [] d) (list_at (owners_at s []) d) page) (below n) pages)
           (sym (first.pages ∙ same_for_each None 0 n))
@@ -122,7 +122,7 @@ stands_first plan p own at h e first new is =
           (sym (ap (λ (tables : List Stamps). entry_at tables d x) first.tables ∙ no_entry n d x) ∙ held);
     }
 
-come_first : (plan : RunPlan) (p : ℕ) (own : List (List ℤ)) (at : At) (h : Holdings) (e : NodeEnd) → IsFirst (session_in plan) p own h
+come_first : (plan : RunPlan) (p : ℕ) (own : List (List ℤ)) (at : At) (h : Holdings) (e : NodeEnd) → HoldsFirst (session_in plan) p own h
     → EndsNew (session_in plan) e
     → own ≡ parts_of plan.checked.arrays (block_owners plan.nodes plan.checked.layouts) plan.store p
     → HasCome plan [] (trace_of plan.checked) p (held_of (state_first (session_in plan) at h e))
@@ -150,10 +150,10 @@ begun_same h e n none = ap (λ (kept : List (Option Kept)). record h { kept = ke
 
 -- before the first step nothing is behind
 pub next_first : (plan : RunPlan) (p left : ℕ) (own : List (List ℤ)) (at : At) (h : Holdings) (e : NodeEnd) → p < plan.nodes
-    → IsFirst (session_in plan) p own h → EndsNew (session_in plan) e
+    → HoldsFirst (session_in plan) p own h → EndsNew (session_in plan) e
     → own ≡ parts_of plan.checked.arrays (block_owners plan.nodes plan.checked.layouts) plan.store p
     → left ≡ length (whole_from plan [] (trace_of plan.checked))
-    → IsNext plan [] (trace_of plan.checked) p left (state_first (session_in plan) at h e)
+    → ComesNext plan [] (trace_of plan.checked) p left (state_first (session_in plan) at h e)
 next_first plan p left own at h e less first new is left_is = record {
   session = refl;
   node = less;
@@ -163,15 +163,15 @@ next_first plan p left own at h e less first new is left_is = record {
 
 -- what was entered then is the first row
 pub starts_right : (plan : RunPlan) (p : ℕ) (own : List (List ℤ)) (h : Holdings) (end : NodeEnd) (e : Entered) (st : NodeState)
-    → IsFirst (session_in plan) p own h
-    → IsRight plan (left_from plan [] (trace_of plan.checked)) p e (state_first (session_in plan) e.at h end)
-    → st ≡ record (state_first (session_in plan) e.at h end) { inspected = noted e.begins e.at.execution [] }
-    → (face_of p plan.nodes e ≡ node_row plan 0 p) × node_holds plan 0 p st
+    → HoldsFirst (session_in plan) p own h
+    → EntersAs plan (left_from plan [] (trace_of plan.checked)) p e (state_first (session_in plan) e.at h end)
+    → st ≡ record (state_first (session_in plan) e.at h end) { inspected = noted_if e.begins e.at.execution [] }
+    → (face_entered p plan.nodes e ≡ node_row plan 0 p) × node_holds plan 0 p st
 starts_right plan p own h end e st first right is = (
   right.face ∙ ap (λ fs. face_left (scene_in plan) fs p) (sym (run_starts plan).left),
   subst (λ fs. HoldsAt plan fs p st) (sym (run_starts plan).left)
       (subst (HoldsAt plan (left_from plan [] (trace_of plan.checked)) p)
-      (ap (λ (x : Holdings). record (state_first (session_in plan) e.at x end) { inspected = noted e.begins e.at.execution [] })
+      (ap (λ (x : Holdings). record (state_first (session_in plan) e.at x end) { inspected = noted_if e.begins e.at.execution [] })
       (begun_same h e (length plan.checked.sites) first.kept) ∙ sym is) right.holds),
 )
 
@@ -190,24 +190,24 @@ covers_same kept now same = subst (λ x. Covers x now) (sym same) (record { reco
 
 -- a node begins with the first row, and with what holds there
 pub started : (s : Session) (p left : ℕ) (own : List (List ℤ)) (h : Holdings) (end : NodeEnd) (e : Entered) (face : Face) (st : NodeState)
-    → p < s.nodes → IsFirst s p own h → EndsNew s end
+    → p < s.nodes → HoldsFirst s p own h → EndsNew s end
     → ((plan : RunPlan) → IsRunPlan plan → s ≡ session_in plan → left ≡ length (whole_from plan [] s.trace))
-    → ((plan : RunPlan) → IsRunPlan plan → s ≡ session_in plan → IsNext plan [] (trace_of plan.checked) p left
+    → ((plan : RunPlan) → IsRunPlan plan → s ≡ session_in plan → ComesNext plan [] (trace_of plan.checked) p left
     (state_first (session_in plan) e.at h end)
-    → IsRight plan (left_from plan [] (trace_of plan.checked)) p e (state_first (session_in plan) e.at h end))
-    → face ≡ face_of p s.nodes e → st ≡ record (state_first s e.at h end) { inspected = noted e.begins e.at.execution [] }
+    → EntersAs plan (left_from plan [] (trace_of plan.checked)) p e (state_first (session_in plan) e.at h end))
+    → face ≡ face_entered p s.nodes e → st ≡ record (state_first s e.at h end) { inspected = noted_if e.begins e.at.execution [] }
     → (plan : RunPlan) → IsRunPlan plan → s ≡ session_in plan
     → own ≡ parts_of plan.checked.arrays (block_owners plan.nodes plan.checked.layouts) plan.store p
     → (face ≡ node_row plan 0 p) × node_holds plan 0 p st
 started s p left own h end e face st less first new left_is right face_is st_is plan is same own_is =
-    let firsts = subst (λ x. IsFirst x p own h) same first in
+    let firsts = subst (λ x. HoldsFirst x p own h) same first in
     let counts = subst (λ x. EndsNew x end) same new in
     let node : p < plan.nodes = subst (λ (x : Session). p < x.nodes) same less in
     let count = left_is plan is same ∙ ap (λ (x : Session). length (whole_from plan [] x.trace)) same in
     let next = next_first plan p left own e.at h end node firsts counts own_is count in
     let done = starts_right plan p own h end e st firsts (right plan is same next)
-    (st_is ∙ ap (λ (x : Session). record (state_first x e.at h end) { inspected = noted e.begins e.at.execution [] }) same) in
-    (face_is ∙ ap (λ (x : Session). face_of p x.nodes e) same ∙ done.0, done.1)
+    (st_is ∙ ap (λ (x : Session). record (state_first x e.at h end) { inspected = noted_if e.begins e.at.execution [] }) same) in
+    (face_is ∙ ap (λ (x : Session). face_entered p x.nodes e) same ∙ done.0, done.1)
 
 -- so it is in a session
 pub count_in : (s : Session) (n : ℕ) → IsCount s.checked s.nodes s.rule s.trace n → (plan : RunPlan) → IsRunPlan plan → s ≡ session_in plan

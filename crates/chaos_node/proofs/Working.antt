@@ -8,8 +8,8 @@ use Rattle.bsp_core.specs.declared.phased.Want.TheVariants.{Done, Work}
 use Rattle.fd_program.specs.Layouts.{Scene}
 use Rattle.plan_run.specs.Phases.{Phase}
 use Rattle.plan_run.specs.Rows.{IsRunPlan, RunPlan, face_left, node_row, phases_in, scene_in}
-use Rattle.chaos_node.specs.Changing.{ChangesRight, changed}
-use Rattle.chaos_entering.specs.Coming.{entered_state, face_of}
+use Rattle.chaos_node.specs.Changing.{ChangesRight, changed_by}
+use Rattle.chaos_entering.specs.Coming.{entered_state, face_entered}
 use Rattle.chaos_entering.specs.Standing.{HoldsAt, IsPlace, node_holds}
 use Rattle.chaos_entering.specs.State.{NodeState}
 use Rattle.chaos_entering.specs.declared.activity.Activity.{Activity}
@@ -24,13 +24,13 @@ count_left : (s : Scene) (phases : List Phase) (p : ℕ) → (face_left s phases
 count_left s [] p = refl
 count_left s (f ∷ fs) p = refl
 
-pub works : (v w : View NodeState) (change : Change) → ChangesRight v change → w.face ≡ face_of v.face.me v.face.count change.entered
-    → w.state ≡ entered_state (changed v.state change) change.entered → WorksFor IsRunPlan (λ plan. plan.nodes) node_row node_holds v w
+pub works : (v w : View NodeState) (change : Change) → ChangesRight v change → w.face ≡ face_entered v.face.me v.face.count change.entered
+    → w.state ≡ entered_state (changed_by v.state change) change.entered → WorksFor IsRunPlan (λ plan. plan.nodes) node_row node_holds v w
 works v w change right face state plan t p is less at holds =
     let now = right plan t p is less at holds in
     let me : v.face.me ≡ p = ap (λ (f : Face). f.me) at ∙ me_left (scene_in plan) (drop t (phases_in plan)) p in
     let count : v.face.count ≡ plan.nodes = ap (λ (f : Face). f.count) at ∙ count_left (scene_in plan) (drop t (phases_in plan)) p in (
-      face ∙ ap (λ m. face_of m v.face.count change.entered) me ∙ ap (λ n. face_of p n change.entered) count ∙ now.face,
+      face ∙ ap (λ m. face_entered m v.face.count change.entered) me ∙ ap (λ n. face_entered p n change.entered) count ∙ now.face,
       subst (HoldsAt plan (drop (t + 1) (phases_in plan)) p) (sym state) now.holds,
     )
 

@@ -2,15 +2,15 @@
 use Rattle.std.specs.Prelude.{◌≡◌, ℕ, ◌+◌, ◌<◌, ◌++◌, drop}
 use Rattle.bsp_core.specs.Views.{View, ready}
 use Rattle.plan_run.specs.Rows.{IsRunPlan, RunPlan, node_row, phases_in}
-use Rattle.chaos_entering.specs.Coming.{CanStand, IsRight}
+use Rattle.chaos_entering.specs.Coming.{CanStand, EntersAs}
 use Rattle.chaos_holdings.specs.Effects.{end_after, holdings_after}
 use Rattle.chaos_entering.specs.Standing.{node_holds}
 use Rattle.chaos_entering.specs.State.{NodeState}
 use Rattle.chaos_node.specs.declared.change.Change.{Change}
 
 -- a node after a change, but for its place
-abbrev pub changed : NodeState → Change → NodeState
-changed st change = record {
+abbrev pub changed_by : NodeState → Change → NodeState
+changed_by st change = record {
   session = st.session;
   at = st.at;
   holdings = holdings_after st.session.checked st.at.site change.effect st.holdings;
@@ -23,7 +23,7 @@ changed st change = record {
 abbrev pub ChangesRight : View NodeState → Change → Type 0
 ChangesRight v change =
     (plan : RunPlan) (t p : ℕ) → IsRunPlan plan → p < plan.nodes → v.face ≡ ready (node_row plan t) p → node_holds plan t p v.state
-    → IsRight plan (drop (t + 1) (phases_in plan)) p change.entered (changed v.state change)
+    → EntersAs plan (drop (t + 1) (phases_in plan)) p change.entered (changed_by v.state change)
 
 -- and can be made
 pub record CanBeMade (v : View NodeState) (change : Change) : Type 0 where

@@ -27,11 +27,12 @@ use Rattle.plan_run.specs.declared.stage.Stage.TheVariants as stage
 use Rattle.plan_loop.specs.declared.loop_phase.LoopPhase.TheVariants as phase
 use Rattle.plan_walk.specs.Places.{left_in, outputs_left}
 use Rattle.plan_walk.specs.StepEnds.{run_starts}
-use Rattle.chaos_entering.specs.Standing.{IsPlace, IsOver, KnowsBehind, node_holds}
+use Rattle.chaos_entering.specs.Standing.{IsPlace, StandsAtEnd, KnowsBehind, node_holds}
 use Rattle.chaos_entering.specs.State.{NodeState, held_of}
 use Rattle.chaos_entering.specs.declared.activity.Activity.{Activity}
 use Rattle.chaos_entering.specs.declared.activity.Activity.TheVariants.{Printing, Output, Moving as Moves, Inspecting, Gathering}
 use Rattle.chaos_entering.specs.declared.activity.Activity.TheVariants.{Scattering, Ended}
+use Rattle.chaos_dist.specs.OwnersLaws.{take_whole}
 
 -- The text of node 0 is that of the run, and the others have none; the refusal is the run's; the counts are the node's own over the
 -- completed steps; and the inspected executions are those that inspect.
@@ -64,7 +65,7 @@ output_left : (plan : RunPlan) (phases : List Phase) (j : ℕ) (name : OutputNam
 output_left plan phases j name names none e = cons_nil _ _ (sym e ∙ none)
 
 over_at : (plan : RunPlan) (phases : List Phase) (p : ℕ) (st : NodeState) (a : Activity) → phases ≡ [] → IsPlace plan phases p st a
-    → IsOver plan phases p st
+    → StandsAtEnd plan phases p st
 over_at plan phases p st Printing none h = absurd (stage_left plan phases h.past _ h.rest _ [] none h.in_step.phases_are)
 over_at plan phases p st (Output j) none h = absurd (output_left plan phases j h.name h.names none h.phases_are)
 over_at plan phases p st (Moves m) none h = absurd (stage_left plan phases h.past _ h.rest h.stage h.more none h.in_step.phases_are)
@@ -128,10 +129,6 @@ lines_all plan =
     ∙ lines_behind s (trace_of plan.checked) [] run (ap (run_from plan.checked (trace_of plan.checked)) (sym (run_starts plan).store)) start
 
 -- ---- at the end
-
-take_whole : {A : Type 0} (xs : List A) → take (length xs) xs ≡ xs
-take_whole [] = refl
-take_whole {A} (x ∷ xs) = ap (λ (l : List A). x ∷ l) (take_whole xs)
 
 whole_text_is : (plan : RunPlan)
     → lines_of (scene_in plan) (completed_of (run_in plan)) ++ refusal_text plan.checked (run_in plan).refused

@@ -17,7 +17,7 @@ use Rattle.plan_run.specs.Held.{is_executing}
 use Rattle.plan_run.specs.Rows.{IsRunPlan, RunPlan, node_row, phases_in, scene_in}
 use Rattle.plan_run.specs.declared.stage.Stage.TheVariants as stage
 use Rattle.chaos_entering.specs.Behind.{stages_behind}
-use Rattle.chaos_entering.specs.Standing.{HasSizes, IsInStep, node_holds, session_in}
+use Rattle.chaos_entering.specs.Standing.{HasSizes, StandsInStep, node_holds, session_in}
 use Rattle.chaos_entering.specs.State.{NodeState}
 
 -- At the end of phase t, one of an inspection: what the inspection and the tables have become.
@@ -27,7 +27,7 @@ pub record HasInspected (plan : RunPlan) (t p : ℕ) (st : NodeState) (i : Inspe
   pub turn : LoopTurn
   pub present : LoopPhase
   pub session : st.session ≡ session_in plan
-  pub in_step : IsInStep plan (drop t (phases_in plan)) past (Forall st.at.site turn) rest (stage.InLoop present)
+  pub in_step : StandsInStep plan (drop t (phases_in plan)) past (Forall st.at.site turn) rest (stage.InLoop present)
       (stages_behind (loop_at (scene_in plan) past st.at.site turn) present) p st
   pub sizes : HasSizes plan past (Forall st.at.site turn) (stage.InLoop present) p st
   pub early : is_executing (stage.InLoop present) ≡ false

@@ -6,13 +6,13 @@ use Rattle.chaos_entering.specs.Coming.{IsSoundActivity}
 use Rattle.chaos_entering.specs.State.{NodeState}
 use Rattle.chaos_node.specs.declared.node.Node.TheInside.{Inside}
 
-abbrev pub shown : Inside → View NodeState
-shown s = record {
+abbrev pub shown_node : Inside → View NodeState
+shown_node s = record {
   face = record { me = s.me; count = s.session.now.nodes; left = s.left; out = s.out.items; due = s.due.items; got = s.got.items };
   state = record { session = s.session.now; at = s.at; holdings = s.holdings; text = s.text; inspected = s.inspected; end = s.end };
 }
 
-pub record Keeps (s : Inside) : Type 0 where
+pub record KeepsNode (s : Inside) : Type 0 where
   pub checked : IsChecked s.session.now.checked
   pub me : s.me < s.session.now.nodes
   pub few : s.session.now.nodes ≤ 16

@@ -13,7 +13,7 @@ use Rattle.chaos_moving.specs.declared.moving.Moving.{Moving}
 use Rattle.chaos_moving.specs.declared.moving.MovingStage.{MovingStage}
 use Rattle.plan_run.specs.Rows.{IsRunPlan, RunPlan, node_row, phases_in, scene_in}
 use Rattle.plan_run.specs.declared.stage.Stage.{Stage}
-use Rattle.chaos_entering.specs.Standing.{HasSizes, IsInStep, node_holds, session_in}
+use Rattle.chaos_entering.specs.Standing.{HasSizes, StandsInStep, node_holds, session_in}
 use Rattle.chaos_entering.specs.State.{NodeState}
 
 -- At the end of phase t, a stage of a move: what the move has become.
@@ -24,7 +24,7 @@ pub record HasGoneOn (plan : RunPlan) (t p : ℕ) (st : NodeState) (m : Moving) 
   pub before : MovingStage
   pub stage : Stage
   pub session : st.session ≡ session_in plan
-  pub in_step : IsInStep plan (drop t (phases_in plan)) past (Distribute st.at.site form) rest stage (stages_left m.stage) p st
+  pub in_step : StandsInStep plan (drop t (phases_in plan)) past (Distribute st.at.site form) rest stage (stages_left m.stage) p st
   pub sizes : HasSizes plan past (Distribute st.at.site form) stage p st
   pub from : stages_left before ≡ stage ∷ stages_left m.stage
   pub repeats : is_repeat plan.checked past st.at.site form ≡ false

@@ -30,13 +30,14 @@ use Rattle.plan_run.specs.StepLaws.{print_keeps_loops, print_stands}
 use Rattle.plan_run.specs.declared.kept.Kept.{Kept}
 use Rattle.plan_run.specs.declared.stage.Stage.TheVariants as stage
 use Rattle.plan_walk.specs.LetterLaws.{letters_come_in}
-use Rattle.plan_walk.specs.PhaseBegins.{drop_first, phases_follow, rows_follow}
+use Rattle.plan_walk.specs.PhaseBegins.{phases_follow, rows_follow}
+use Rattle.fd_program.specs.RunLaws.{drop_first}
 use Rattle.plan_walk.specs.Places.{left_from, left_in, output_phase, outputs_left, present_phase, whole_from}
 use Rattle.plan_walk.specs.StepEnds.{steps_are_known, steps_end}
 use Rattle.plan_walk.specs.Walking.{face_done}
 use Rattle.chaos_print.specs.InPlan.{CanPrint, OutputsGoOn, PlansCanPrint, PrintsGoOn, text_with}
 use Rattle.chaos_print.specs.Printing.{print_text}
-use Rattle.chaos_entering.specs.Coming.{IsBehindSteps, IsHere, IsNext, IsRight}
+use Rattle.chaos_entering.specs.Coming.{IsBehindSteps, IsHere, ComesNext, EntersAs}
 use Rattle.chaos_node.specs.Ends.{LooksAt}
 use Rattle.chaos_holdings.specs.Keeping.{prepared_in}
 use Rattle.chaos_entering.specs.Standing.{HoldsAt, IsOutput, IsPlace, IsPrint, session_in}
@@ -65,7 +66,7 @@ pub record IsPrinted (plan : RunPlan) (t p : ℕ) (v : View NodeState) (line : L
   pub few : length past ≤ 20000
   pub me : v.face.me ≡ p
   pub left : drop (t + 1) (phases_in plan) ≡ left_from plan (Print v.state.at.site ∷ past) rest
-  pub next : (k : ℕ) → k + 1 ≡ v.face.left → IsNext plan (Print v.state.at.site ∷ past) rest p k (with_line v.state line)
+  pub next : (k : ℕ) → k + 1 ≡ v.face.left → ComesNext plan (Print v.state.at.site ∷ past) rest p k (with_line v.state line)
 
 -- behind an array of OUTPUT the next array comes
 pub record IsPutOut (plan : RunPlan) (t p j : ℕ) (v : View NodeState) (line : List ℕ) : Type 0 where
@@ -288,15 +289,15 @@ is_here plan st me line b session look = record {
 abbrev pub EntersNext : NodeState → Between → ℕ → ℕ → Entered → Type 0
 EntersNext st b number left e =
     (plan : RunPlan) (past rest : List Step) (after : NodeState) → IsRunPlan plan → st.session ≡ session_in plan → number ≡ length past
-    → IsHere plan b (held_of after) → st.holdings.pages ≡ after.holdings.pages → IsNext plan past rest b.me left after
-    → IsRight plan (left_from plan past rest) b.me e after
+    → IsHere plan b (held_of after) → st.holdings.pages ≡ after.holdings.pages → ComesNext plan past rest b.me left after
+    → EntersAs plan (left_from plan past rest) b.me e after
 
 -- and enter_output
 abbrev pub EntersOutput : NodeState → ℕ → ℕ → ℕ → Entered → Type 0
 EntersOutput st me number left e =
     (plan : RunPlan) (after : NodeState) → IsRunPlan plan → st.session ≡ session_in plan → IsBehindSteps plan number me left after
     → st.holdings.elements ≡ after.holdings.elements → st.holdings.parts ≡ after.holdings.parts
-    → IsRight plan (outputs_left plan (completed_of (run_in plan)) number (drop number plan.checked.outputs)) me e after
+    → EntersAs plan (outputs_left plan (completed_of (run_in plan)) number (drop number plan.checked.outputs)) me e after
 
 few_steps : (n m : ℕ) → n ≡ m → m ≤ 20000 → n < 2 ^ 32
 few_steps n m e h = omega (arith, e, h)
@@ -304,7 +305,7 @@ few_steps n m e h = omega (arith, e, h)
 pub print_right : (plan : RunPlan) (t p : ℕ) (v : View NodeState) (line : List ℕ) (b : Between) (number left : ℕ) (e : Entered)
     → IsRunPlan plan → IsPrinted plan t p v line
     → LooksAt v.state v.face.me b → (v.state.at.execution < 2 ^ 32 → number ≡ v.state.at.execution + 1) → left + 1 ≡ v.face.left
-    → EntersNext v.state b number left e → IsRight plan (drop (t + 1) (phases_in plan)) p e (with_line v.state line)
+    → EntersNext v.state b number left e → EntersAs plan (drop (t + 1) (phases_in plan)) p e (with_line v.state line)
 print_right plan t p v line b number left e is h look counts one enters =
     let past = Print v.state.at.site ∷ h.past in
     let st = with_line v.state line in
@@ -312,13 +313,13 @@ print_right plan t p v line b number left e is h look counts one enters =
     let numbered : number ≡ length past = counts (few_steps v.state.at.execution (length h.past) h.number h.few)
     ∙ ap (λ n. n + 1) h.number ∙ add-one (length h.past) in
     let right = enters plan past h.rest st is h.session numbered (is_here plan v.state v.face.me line b h.session look) refl
-    (subst (λ n. IsNext plan past h.rest n left st) (sym me) (h.next left one)) in
-    subst (λ n. IsRight plan (drop (t + 1) (phases_in plan)) n e st) me (subst (λ fs. IsRight plan fs b.me e st) (sym h.left) right)
+    (subst (λ n. ComesNext plan past h.rest n left st) (sym me) (h.next left one)) in
+    subst (λ n. EntersAs plan (drop (t + 1) (phases_in plan)) n e st) me (subst (λ fs. EntersAs plan fs b.me e st) (sym h.left) right)
 
 pub output_right : (plan : RunPlan) (t p j : ℕ) (v : View NodeState) (line : List ℕ) (number left : ℕ) (e : Entered) → IsRunPlan plan
     → IsPutOut plan t p j v line
     → (j + 1 < 2 ^ 32 → number ≡ j + 1) → left + 1 ≡ v.face.left
-    → EntersOutput v.state v.face.me number left e → IsRight plan (drop (t + 1) (phases_in plan)) p e (with_line v.state line)
+    → EntersOutput v.state v.face.me number left e → EntersAs plan (drop (t + 1) (phases_in plan)) p e (with_line v.state line)
 output_right plan t p j v line number left e is h counts one enters =
     let st = with_line v.state line in
     let numbered : number ≡ j + 1 = counts (few_arrays (j + 1) (length plan.checked.outputs) h.few is.within.outputs) in
@@ -326,8 +327,8 @@ output_right plan t p j v line number left e is h counts one enters =
     (subst (λ n. IsBehindSteps plan n v.face.me left st) (sym numbered) (subst (λ n. IsBehindSteps plan (j + 1) n left st) (sym h.me)
     (h.next left one))) refl refl in
     let past = completed_of (run_in plan) in
-    subst (λ n. IsRight plan (drop (t + 1) (phases_in plan)) n e st) h.me
-    (subst (λ fs. IsRight plan fs v.face.me e st) (ap (λ n. outputs_left plan past n (drop n plan.checked.outputs)) numbered
+    subst (λ n. EntersAs plan (drop (t + 1) (phases_in plan)) n e st) h.me
+    (subst (λ fs. EntersAs plan fs v.face.me e st) (ap (λ n. outputs_left plan past n (drop n plan.checked.outputs)) numbered
     ∙ sym h.left) right)
   where
     few_arrays : (n m : ℕ) → n ≤ m → m ≤ 16777216 → n < 2 ^ 32

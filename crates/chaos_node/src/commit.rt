@@ -1,7 +1,7 @@
 ghost use Rattle.std.specs.Prelude.{◌≡◌, ℕ, ◌+◌, ◌^◌, ◌<◌, ◌≤◌, ℤ, List, ◌++◌, ◌∷◌, [], true, OnOk, OnErr};
-ghost use Rattle.chaos_entering.specs.Coming.{CanStand, begun_holdings, entered_state, face_of, noted};
+ghost use Rattle.chaos_entering.specs.Coming.{CanStand, begun_holdings, entered_state, face_entered, noted_if};
 ghost use Rattle.chaos_holdings.specs.Effects.{end_after, holdings_after};
-ghost use Rattle.chaos_node.specs.Changing.{CanBeMade, changed};
+ghost use Rattle.chaos_node.specs.Changing.{CanBeMade, changed_by};
 ghost use Rattle.chaos_node.specs.Putting.{put_in_place, recorded};
 
 use crate::change::Change;
@@ -32,7 +32,7 @@ impl<'a> Node<'a> {
     /// Puts a new phase in the place of the old one, which takes no memory.
     fn install(&mut self, entered: Entered)
         requires { CanStand self.old.face.me self.old.face.count entered }
-        ensures face { self.new.face ≡ face_of self.old.face.me self.old.face.count entered }
+        ensures face { self.new.face ≡ face_entered self.old.face.me self.old.face.count entered }
         ensures state { self.new.state ≡ record self.old.state { at = entered.at } }
     {
         let Entered {
@@ -54,7 +54,8 @@ impl<'a> Node<'a> {
     pub(crate) fn note(&mut self, begins: bool, execution: u64) -> Result<(), Memory>
         requires { begins ≡ true → execution < 2 ^ 63 }
         ensures face { self.new.face ≡ self.old.face }
-        ensures ok { OnOk result (self.new.state ≡ record self.old.state { inspected = noted begins execution self.old.state.inspected }) }
+        ensures ok { OnOk result (self.new.state
+            ≡ record self.old.state { inspected = noted_if begins execution self.old.state.inspected }) }
         ensures err { OnErr result (self.new ≡ self.old) }
     {
         if begins {
@@ -66,7 +67,7 @@ impl<'a> Node<'a> {
     /// Takes a note back.
     fn unnote(&mut self, begins: bool)
         ensures face { self.new.face ≡ self.old.face }
-        ensures state { (execution : ℕ) (before : List ℤ) → self.old.state.inspected ≡ noted begins execution before
+        ensures state { (execution : ℕ) (before : List ℤ) → self.old.state.inspected ≡ noted_if begins execution before
             → self.new.state ≡ record self.old.state { inspected = before } }
     {
         if begins {
@@ -131,7 +132,7 @@ impl<'a> Node<'a> {
     /// Puts what was prepared in place, which takes no memory.
     fn put(&mut self, change: Change)
         requires { CanStand self.old.face.me self.old.face.count change.entered }
-        ensures face { self.new.face ≡ face_of self.old.face.me self.old.face.count change.entered }
+        ensures face { self.new.face ≡ face_entered self.old.face.me self.old.face.count change.entered }
         ensures state { self.new.state ≡ put_in_place change self.old.state }
     {
         let Change {
@@ -147,8 +148,8 @@ impl<'a> Node<'a> {
     /// Puts all that a work has prepared in place; where memory is wanting nothing has changed.
     pub fn commit(&mut self, change: Change) -> Result<(), Memory>
         requires { CanBeMade self.old change }
-        ensures face { OnOk result (self.new.face ≡ face_of self.old.face.me self.old.face.count change.entered) }
-        ensures state { OnOk result (self.new.state ≡ entered_state (changed self.old.state change) change.entered) }
+        ensures face { OnOk result (self.new.face ≡ face_entered self.old.face.me self.old.face.count change.entered) }
+        ensures state { OnOk result (self.new.state ≡ entered_state (changed_by self.old.state change) change.entered) }
         ensures err { OnErr result (self.new ≡ self.old) }
     {
         match self.record(

@@ -42,11 +42,11 @@ impl<'a> Model for Node<'a> {
 
     ghost coded = { Prim.hlevel (codes, scalar.the_row.coded, expr.the_row.coded, stamps_code) };
 
-    ghost use Rattle.chaos_node.specs.Kept.{Keeps, shown};
+    ghost use Rattle.chaos_node.specs.Kept.{KeepsNode, shown_node};
 
-    ghost view = { λ s. shown s };
+    ghost view = { λ s. shown_node s };
 
-    ghost invariant = { λ s. Keeps s };
+    ghost invariant = { λ s. KeepsNode s };
 }
 
 impl<'a> Node<'a> {

@@ -3,7 +3,7 @@ ghost use Rattle.bsp_core.specs.Views.{next_of};
 ghost use Rattle.bsp_core.specs.declared.phased.Want.TheVariants.{Work};
 ghost use Rattle.chaos_entering.specs.declared.activity.Activity.TheVariants as activity;
 ghost use Rattle.chaos_node.specs.Changing.{CanBeMade, ChangesRight};
-ghost use Rattle.chaos_begin.specs.Begins.{IsSound};
+ghost use Rattle.chaos_begin.specs.Begins.{IsSoundBetween};
 ghost use Rattle.chaos_print.specs.Printing.{print_text};
 ghost use Rattle.chaos_node.specs.Ends.{LooksAt, LooksWith};
 
@@ -27,7 +27,7 @@ impl<'a> Node<'a> {
     /// What is looked at as a step begins.
     pub(crate) fn between(&self) -> Between
         ensures is { LooksAt self.now.state self.now.face.me result }
-        ensures sound { IsSound result }
+        ensures sound { IsSoundBetween result }
     {
         let holdings = &self.holdings;
         self.between_with(&holdings.elements, &holdings.parts, &holdings.records)
@@ -41,7 +41,7 @@ impl<'a> Node<'a> {
         records: &'b Records,
     ) -> Between<'b>
         ensures is { LooksWith self.now.state self.now.face.me elements.now parts.now records.now result }
-        ensures sound { IsSound result }
+        ensures sound { IsSoundBetween result }
     {
         Between {
             checked: &self.session.checked,

@@ -1,5 +1,5 @@
 ghost use Rattle.std.specs.Prelude.{◌≡◌, ◌^◌, ◌<◌, ◌≤◌, [], true, length, ◌↔◌, IfOk, IfSome, IsSome};
-ghost use Rattle.chaos_entering.specs.Coming.{CanStand, face_of, noted};
+ghost use Rattle.chaos_entering.specs.Coming.{CanStand, face_entered, noted_if};
 ghost use Rattle.plan_walk.specs.Places.{whole_from};
 ghost use Rattle.chaos_holdings.specs.Starting.{block_owners};
 ghost use Rattle.bsp_core.specs.Views.{next_of};
@@ -60,7 +60,7 @@ fn node_with<'a>(
     requires me { me < session.now.nodes }
     requires few { session.now.nodes ≤ 16 }
     requires stands { CanStand me session.now.nodes entered }
-    ensures face { result.face ≡ face_of me session.now.nodes entered }
+    ensures face { result.face ≡ face_entered me session.now.nodes entered }
     ensures state { result.state ≡ record {
       session = session.now;
       at = entered.at;
@@ -98,7 +98,8 @@ fn node_with<'a>(
 fn noting<'a>(node: Node<'a>, begins: bool, execution: u64) -> Result<Node<'a>, Memory>
     requires { begins ≡ true → execution < 2 ^ 63 }
     ensures face { IfOk result (λ n. n.face ≡ node.entry.face) }
-    ensures state { IfOk result (λ n. n.state ≡ record node.entry.state { inspected = noted begins execution node.entry.state.inspected }) }
+    ensures state { IfOk result (λ n. n.state
+        ≡ record node.entry.state { inspected = noted_if begins execution node.entry.state.inspected }) }
 {
     let mut node = node;
     match node.note(begins, execution) {

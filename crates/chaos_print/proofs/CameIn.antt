@@ -1,13 +1,10 @@
 -- What a node took in a phase.
-use Rattle.std.specs.Prelude.{◌≡◌, refl, ℕ, zero, suc, ◌+◌, ◌≤◌, ◌<◌, Bool, true, if◌then◌else◌, List, [], ◌∷◌, ◌++◌, map, filter}
-use Rattle.std.specs.List.{range_with_len}
+use Rattle.std.specs.Prelude.{◌≡◌, ℕ, ◌<◌, Bool, if◌then◌else◌, List, [], ◌∷◌}
 use Rattle.std.proofs.Common.{ap, ◌∙◌, arith}
-use Rattle.bsp_core.specs.Views.{Face, for_node, incoming, ready}
-use Rattle.chaos_letter.specs.declared.letter.Letter.{Letter}
-use Rattle.chaos_letter.specs.declared.wanted.Wanted.{Wanted}
+use Rattle.bsp_core.specs.Views.{incoming, ready}
 use Rattle.fd_program.specs.Layouts.{Scene}
 use Rattle.plan_run.specs.Phases.{Phase, is_sent, letter_of, takes_at, wanted_at}
-use Rattle.plan_run.specs.Picks.{each, picked, picked_one, pick_with, incoming_picked}
+use Rattle.plan_run.specs.Picks.{picked_one, incoming_picked}
 use Rattle.plan_run.specs.Rows.{face_left, scene_in}
 use Rattle.chaos_print.specs.InRun.{LettersCameIn, letters_to}
 

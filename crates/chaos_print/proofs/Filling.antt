@@ -15,7 +15,7 @@ use Rattle.plan_run.specs.Picks.{pick_with}
 use Rattle.plan_run.specs.declared.stage.Stage.{Stage}
 use Rattle.plan_run.specs.declared.stage.Stage.TheVariants as stage
 use Rattle.chaos_print.specs.InRun.{IsPrintStage}
-use Rattle.chaos_print.specs.Printing.{filled, filled_all}
+use Rattle.chaos_print.specs.Printing.{filled_by_rows, filled_all}
 
 abbrev pub row : (ℕ → ℤ) → ℕ → List ℤ
 row x g = pos g ∷ x g ∷ []
@@ -43,20 +43,21 @@ set_other (x ∷ xs) zero (suc j) v n = refl
 set_other (x ∷ xs) (suc i) zero v n = refl
 set_other (x ∷ xs) (suc i) (suc j) v n = set_other xs i j v (λ z. n (ap suc z))
 
-filled_len : (x : ℕ → ℤ) (P : ℕ → Bool) (low k : ℕ) (vs : List ℤ) → length (filled vs (rows_where x P low k)) ≡ length vs
+filled_len : (x : ℕ → ℤ) (P : ℕ → Bool) (low k : ℕ) (vs : List ℤ) → length (filled_by_rows vs (rows_where x P low k)) ≡ length vs
 filled_len x P low zero vs = refl
 filled_len x P low (suc k) vs =
-    pick_with (λ gs. length (filled vs (flat_map (row x) gs)) ≡ length vs) (P low) (low ∷ filter P (range_with_len (low + 1) k))
+    pick_with (λ gs. length (filled_by_rows vs (flat_map (row x) gs)) ≡ length vs) (P low) (low ∷ filter P (range_with_len (low + 1) k))
     (filter P (range_with_len (low + 1) k))
     (λ e. filled_len x P (low + 1) k (slice_set vs (low - 1) (x low)) ∙ len_set vs (low - 1) (x low))
     (λ e. filled_len x P (low + 1) k vs)
 
 -- what is right stays right
 filled_keeps : (x : ℕ → ℤ) (P : ℕ → Bool) (low k i : ℕ) (vs : List ℤ) → 0 < low → i < length vs → get_or vs i (pos 0) ≡ x (i + 1)
-    → get_or (filled vs (rows_where x P low k)) i (pos 0) ≡ x (i + 1)
+    → get_or (filled_by_rows vs (rows_where x P low k)) i (pos 0) ≡ x (i + 1)
 filled_keeps x P low zero i vs l m e = e
 filled_keeps x P low (suc k) i vs l m e =
-    pick_with (λ gs. get_or (filled vs (flat_map (row x) gs)) i (pos 0) ≡ x (i + 1)) (P low) (low ∷ filter P (range_with_len (low + 1) k))
+    pick_with (λ gs. get_or (filled_by_rows vs (flat_map (row x) gs)) i (pos 0) ≡ x (i + 1))
+    (P low) (low ∷ filter P (range_with_len (low + 1) k))
     (filter P (range_with_len (low + 1) k))
     (λ t. filled_keeps x P (low + 1) k i (slice_set vs (low - 1) (x low)) (omega arith) (omega (arith, len_set vs (low - 1) (x low)))
     (elim (cases_eq (low - 1) i) [
@@ -71,10 +72,11 @@ no_bool z = cc
 
 -- what passes is set
 filled_sets : (x : ℕ → ℤ) (P : ℕ → Bool) (low k i : ℕ) (vs : List ℤ) → 0 < low → i < length vs → low ≤ i + 1 → i + 1 < low + k
-    → P (i + 1) ≡ true → get_or (filled vs (rows_where x P low k)) i (pos 0) ≡ x (i + 1)
+    → P (i + 1) ≡ true → get_or (filled_by_rows vs (rows_where x P low k)) i (pos 0) ≡ x (i + 1)
 filled_sets x P low zero i vs l m a b e = absurd (omega arith)
 filled_sets x P low (suc k) i vs l m a b e =
-    pick_with (λ gs. get_or (filled vs (flat_map (row x) gs)) i (pos 0) ≡ x (i + 1)) (P low) (low ∷ filter P (range_with_len (low + 1) k))
+    pick_with (λ gs. get_or (filled_by_rows vs (flat_map (row x) gs)) i (pos 0) ≡ x (i + 1))
+    (P low) (low ∷ filter P (range_with_len (low + 1) k))
     (filter P (range_with_len (low + 1) k))
     (λ t. elim (cases_eq low (i + 1)) [
       | inl h ↦ filled_keeps x P (low + 1) k i (slice_set vs (low - 1) (x low)) (omega arith) (omega (arith, len_set vs (low - 1) (x low)))
@@ -93,13 +95,13 @@ rows_on x owner n q = rows_where x (λ g. owner g == q) 1 n
 
 all_len : (x : ℕ → ℤ) (owner : ℕ → ℕ) (n : ℕ) (qs : List ℕ) (vs : List ℤ) → length (filled_all vs (map (rows_on x owner n) qs)) ≡ length vs
 all_len x owner n [] vs = refl
-all_len x owner n (q ∷ qs) vs = all_len x owner n qs (filled vs (rows_on x owner n q)) ∙ filled_len x (λ g. owner g == q) 1 n vs
+all_len x owner n (q ∷ qs) vs = all_len x owner n qs (filled_by_rows vs (rows_on x owner n q)) ∙ filled_len x (λ g. owner g == q) 1 n vs
 
 all_keeps : (x : ℕ → ℤ) (owner : ℕ → ℕ) (n : ℕ) (qs : List ℕ) (i : ℕ) (vs : List ℤ) → i < length vs → get_or vs i (pos 0) ≡ x (i + 1)
     → get_or (filled_all vs (map (rows_on x owner n) qs)) i (pos 0) ≡ x (i + 1)
 all_keeps x owner n [] i vs l e = e
 all_keeps x owner n (q ∷ qs) i vs l e =
-    all_keeps x owner n qs i (filled vs (rows_on x owner n q)) (omega (arith, l, filled_len x (λ g. owner g == q) 1 n vs))
+    all_keeps x owner n qs i (filled_by_rows vs (rows_on x owner n q)) (omega (arith, l, filled_len x (λ g. owner g == q) 1 n vs))
     (filled_keeps x (λ g. owner g == q) 1 n i vs (omega arith) l e)
 
 is_eq : (a b : ℕ) → a ≡ b → (a == b) ≡ true
@@ -110,10 +112,10 @@ all_sets : (x : ℕ → ℤ) (owner : ℕ → ℕ) (n low k i : ℕ) (vs : List 
     → get_or (filled_all vs (map (rows_on x owner n) (range_with_len low k))) i (pos 0) ≡ x (i + 1)
 all_sets x owner n low zero i vs l m a b = absurd (omega arith)
 all_sets x owner n low (suc k) i vs l m a b = elim (cases_eq (owner (i + 1)) low) [
-  | inl e ↦ all_keeps x owner n (range_with_len (low + 1) k) i (filled vs (rows_on x owner n low))
+  | inl e ↦ all_keeps x owner n (range_with_len (low + 1) k) i (filled_by_rows vs (rows_on x owner n low))
       (omega (arith, l, m, filled_len x (λ g. owner g == low) 1 n vs))
       (filled_sets x (λ g. owner g == low) 1 n i vs (omega arith) (omega arith) (omega arith) (omega arith) (is_eq (owner (i + 1)) low e))
-  | inr e ↦ all_sets x owner n (low + 1) k i (filled vs (rows_on x owner n low)) (filled_len x (λ g. owner g == low) 1 n vs ∙ l) m
+  | inr e ↦ all_sets x owner n (low + 1) k i (filled_by_rows vs (rows_on x owner n low)) (filled_len x (λ g. owner g == low) 1 n vs ∙ l) m
       (omega (arith, e)) (omega arith)
 ]
 

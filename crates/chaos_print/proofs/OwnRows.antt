@@ -1,13 +1,15 @@
 -- The rows that a node finds beside its elements are those of the array.
 use Rattle.std.specs.Prelude.{◌≡◌, refl, ℕ, zero, suc, ◌+◌, ◌-◌, ◌≤◌, ◌<◌, ℤ, pos, negsuc, ◌+ℤ◌, ◌-ℤ◌, ◌≤ℤ◌, ◌<ℤ◌, Bool, true, false, ◌&&◌}
-use Rattle.std.specs.Prelude.{◌==◌, int_le, cond, List, [], ◌∷◌, ◌++◌, length, map, filter, flat_map, slice_get, unwrap_or, Some, None}
+use Rattle.std.specs.Prelude.{◌==◌, int_le, cond, List, [], ◌∷◌, ◌++◌, length, map, filter, flat_map, unwrap_or}
 use Rattle.std.specs.List.{range_with_len}
-use Rattle.std.proofs.Common.{ap, sym, ◌∙◌, subst, arith, get_or, inl, inr}
+use Rattle.std.proofs.Common.{ap, sym, ◌∙◌, subst, arith, inl, inr}
+use Rattle.std.proofs.lemmas.List.FromFn.{get_or-map-range_with_len, length-map-range_with_len}
 use Rattle.std.proofs.lemmas.Bool.{cases_lt}
 use Rattle.std.proofs.lemmas.Int.{ints}
 use Rattle.std.proofs.lemmas.List.{append-nil}
 use Rattle.std.proofs.lemmas.List.Concat.{flat_map-append}
 use Rattle.std.proofs.lemmas.List.Elements.{filter-append}
+use Rattle.std.proofs.lemmas.Option.{slice_get_past, unwrap_or-slice_get}
 use Rattle.fd_words.specs.Lists.{list_at}
 use Rattle.chaos_dist.specs.Counting.{up_to}
 use Rattle.chaos_dist.specs.Homes.{natural}
@@ -18,15 +20,15 @@ use Rattle.fd_program.specs.Places.{decomposition_of, owner_for, part_of, parts_
 use Rattle.fd_program.specs.Stores.{array_at, element, is_within, no_array}
 use Rattle.fd_program.specs.declared.array.ArrayFacts.{ArrayFacts}
 use Rattle.fd_program.specs.declared.checked.Checked.{Checked}
-use Rattle.plan_run.specs.Held.{elements_of}
+use Rattle.plan_run.specs.Held.{elements_held}
 use Rattle.plan_run.specs.Phases.{print_row, print_rows}
 use Rattle.plan_run.specs.Picks.{pick_with}
 use Rattle.chaos_print.specs.InRun.{RowsAreHeld}
-use Rattle.chaos_print.specs.Printing.{is_row, number_if, own_row, row_of, rows_of, rows_held}
+use Rattle.chaos_print.specs.Printing.{is_row, number_if, own_row, row_of, rows_owned, rows_held}
 
 -- ---- over any lists of rows
 
-rows_of_map : (a : ArrayFacts) (f : ℕ → ℤ) (es : List ℕ) → rows_of a (map pos es) (map f es) ≡ flat_map (λ e. own_row a (pos e) (f e)) es
+rows_of_map : (a : ArrayFacts) (f : ℕ → ℤ) (es : List ℕ) → rows_owned a (map pos es) (map f es) ≡ flat_map (λ e. own_row a (pos e) (f e)) es
 rows_of_map a f [] = refl
 rows_of_map a f (e ∷ es) = ap (λ (l : List ℤ). own_row a (pos e) (f e) ++ l) (rows_of_map a f es)
 
@@ -130,45 +132,16 @@ within extent z low high = ap (λ b. b && int_le z (pos extent)) (le_true (pos 1
 -- ---- lists by arrays and decompositions
 
 -- the elements of a decomposition on a node
-elements_for : (owners : List (List ℕ)) (p d : ℕ) → list_at (elements_of owners p) d ≡ map pos (elements_on (list_at owners d) p)
+elements_for : (owners : List (List ℕ)) (p d : ℕ) → list_at (elements_held owners p) d ≡ map pos (elements_on (list_at owners d) p)
 elements_for [] p d = refl
 elements_for (o ∷ owners) p zero = refl
 elements_for (o ∷ owners) p (suc d) = elements_for owners p d
 
-get_among : {A : Type 0} (f : ℕ → A) (a k n : ℕ) → k < n → slice_get (map f (range_with_len a n)) k ≡ Some (f (a + k))
-get_among f a k zero h = absurd (omega arith)
-get_among {A} f a zero (suc n) h = ap (λ x. Some (f x)) (let e : a ≡ a + 0 = omega arith in e)
-get_among {A} f a (suc k) (suc n) h = get_among f (a + 1) k n (less k n h)
-    ∙ ap (λ x. Some (f x)) (let e : a + 1 + k ≡ a + suc k = omega arith in e)
-  where
-    less : (k n : ℕ) → suc k < suc n → k < n
-    less k n h = omega arith
-
-get_past : {A : Type 0} (xs : List A) (k : ℕ) → length xs ≤ k → slice_get xs k ≡ None
-get_past [] k h = refl
-get_past (x ∷ xs) zero h = absurd (none (length xs) h)
-  where
-    none : (n : ℕ) → suc n ≤ 0 → ⊥
-    none n h = omega arith
-get_past (x ∷ xs) (suc k) h = get_past xs k (less (length xs) k h)
-  where
-    less : (n k : ℕ) → suc n ≤ suc k → n ≤ k
-    less n k h = omega arith
-
-length_among : {A : Type 0} (f : ℕ → A) (a n : ℕ) → length (map f (range_with_len a n)) ≡ n
-length_among f a zero = refl
-length_among f a (suc n) = ap suc (length_among f (a + 1) n)
-
 parts_for : (arrays : List ArrayFacts) (owners : List (List ℕ)) (store : List (List ℤ)) (p a : ℕ) → a < length arrays
     → list_at (parts_of arrays owners store p) a ≡ part_of arrays owners store p a
 parts_for arrays owners store p a less =
-    ap (λ o. unwrap_or o []) (get_among (part_of arrays owners store p) 0 a (length arrays) less)
-    ∙ ap (part_of arrays owners store p) (let e : 0 + a ≡ a = omega arith in e)
-
-get_is : (xs : List ArrayFacts) (k : ℕ) → unwrap_or (slice_get xs k) no_array ≡ get_or xs k no_array
-get_is [] k = refl
-get_is (x ∷ xs) zero = refl
-get_is (x ∷ xs) (suc k) = get_is xs k
+    unwrap_or-slice_get (parts_of arrays owners store p) a []
+    ∙ get_or-map-range_with_len (part_of arrays owners store p) 0 (length arrays) a a [] less (omega arith)
 
 natural_is : (z : ℤ) → pos 0 ≤ℤ z → z ≡ pos (natural z)
 natural_is (pos n) h = refl
@@ -180,7 +153,7 @@ natural_is (negsuc n) h = absurd (omega (arith, ints))
 rows_in : (c : Checked) (owners : List (List ℕ)) (store : List (List ℤ)) (p a : ℕ) → a < length c.arrays
     → IsAligned c.layouts (array_at c.arrays a)
     → length (list_at owners (decomposition_of c.arrays a)) ≡ layout_extent c.layouts (decomposition_of c.arrays a)
-    → rows_held c.arrays (elements_of owners p) (parts_of c.arrays owners store p) a ≡ print_rows c owners store a p
+    → rows_held c.arrays (elements_held owners p) (parts_of c.arrays owners store p) a ≡ print_rows c owners store a p
 rows_in c all store p a less h size =
     let facts = array_at c.arrays a in
     let owners = list_at all facts.decomposition in
@@ -216,33 +189,33 @@ rows_in c all store p a less h size =
     ∙ ap (λ b. pos g ∷ cond b (element store a (pos g)) (pos 0) ∷ [])
     (within facts.extent (pos g) (let k : pos 1 ≤ℤ pos g = omega (arith, ints, l) in k) (let k : pos g ≤ℤ pos facts.extent = omega
     (arith, ints, m) in k)) in
-    ap (λ es. rows_of facts es (list_at (parts_of c.arrays all store p) a)) (elements_for all p facts.decomposition)
-    ∙ ap (rows_of facts (map pos (elements_on owners p))) (parts_for c.arrays all store p a less)
+    ap (λ es. rows_owned facts es (list_at (parts_of c.arrays all store p) a)) (elements_for all p facts.decomposition)
+    ∙ ap (rows_owned facts (map pos (elements_on owners p))) (parts_for c.arrays all store p a less)
     ∙ rows_of_map facts (value_on c.arrays store a) (elements_on owners p)
     ∙ ap (λ n. flat_map G (filter P (up_to n))) whole
     ∙ rows_shift G H P Q o facts.extent rest low high test row
 
-rows_without : (facts : ArrayFacts) (es : List ℤ) → rows_of facts es [] ≡ []
+rows_without : (facts : ArrayFacts) (es : List ℤ) → rows_owned facts es [] ≡ []
 rows_without facts [] = refl
 rows_without facts (e ∷ es) = refl
 
 -- the rows that a node finds
 own_rows : (c : Checked) (owners : List (List ℕ)) (store : List (List ℤ)) (p a : ℕ) → IsChecked c
     → ((d : ℕ) → d < length c.layouts → length (list_at owners d) ≡ layout_extent c.layouts d)
-    → rows_held c.arrays (elements_of owners p) (parts_of c.arrays owners store p) a ≡ print_rows c owners store a p
+    → rows_held c.arrays (elements_held owners p) (parts_of c.arrays owners store p) a ≡ print_rows c owners store a p
 own_rows c owners store p a h sizes = elim (cases_lt a (length c.arrays)) [
   | inl less ↦
-      let aligned : IsAligned c.layouts (array_at c.arrays a) = subst (IsAligned c.layouts) (sym (get_is c.arrays a))
+      let aligned : IsAligned c.layouts (array_at c.arrays a) = subst (IsAligned c.layouts) (sym (unwrap_or-slice_get c.arrays a no_array))
       (h.arrays a no_array less) in
       rows_in c owners store p a less aligned (sizes (decomposition_of c.arrays a) aligned.decomposition)
   | inr past ↦
-      let none : array_at c.arrays a ≡ no_array = ap (λ o. unwrap_or o no_array) (get_past c.arrays a past) in
+      let none : array_at c.arrays a ≡ no_array = ap (λ o. unwrap_or o no_array) (slice_get_past c.arrays a past) in
       let short : length (parts_of c.arrays owners store p) ≤ a =
-      subst (λ n. n ≤ a) (sym (length_among (part_of c.arrays owners store p) 0 (length c.arrays))) past in
+      subst (λ n. n ≤ a) (sym (length-map-range_with_len (part_of c.arrays owners store p) 0 (length c.arrays))) past in
       let part : list_at (parts_of c.arrays owners store p) a ≡ [] =
-      ap (λ o. unwrap_or o []) (get_past (parts_of c.arrays owners store p) a short) in
-      let elements = list_at (elements_of owners p) (decomposition_of c.arrays a) in
-      ap (rows_of (array_at c.arrays a) elements) part ∙ rows_without (array_at c.arrays a) elements
+      ap (λ o. unwrap_or o []) (slice_get_past (parts_of c.arrays owners store p) a short) in
+      let elements = list_at (elements_held owners p) (decomposition_of c.arrays a) in
+      ap (rows_owned (array_at c.arrays a) elements) part ∙ rows_without (array_at c.arrays a) elements
       ∙ sym (ap (λ (facts : ArrayFacts). flat_map (print_row store a) (filter (λ g. owner_for c.arrays owners a (pos g) == p)
       (up_to facts.extent))) none)
 ]
@@ -250,5 +223,5 @@ own_rows c owners store p a h sizes = elim (cases_lt a (length c.arrays)) [
 pub rows_are_held : RowsAreHeld
 rows_are_held s past p array v h sizes stands =
     ap (λ es. rows_held s.checked.arrays es v.parts array) stands.elements
-    ∙ ap (λ parts. rows_held s.checked.arrays (elements_of (owners_at s past) p) parts array) stands.parts
+    ∙ ap (λ parts. rows_held s.checked.arrays (elements_held (owners_at s past) p) parts array) stands.parts
     ∙ own_rows s.checked (owners_at s past) (store_at s past) p array h sizes

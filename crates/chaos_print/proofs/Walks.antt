@@ -1,32 +1,26 @@
 -- Lists gone through from the front.
-use Rattle.std.specs.Prelude.{◌≡◌, refl, ℕ, zero, suc, ◌+◌, ◌*◌, ◌/◌, ◌≤◌, ◌<◌, min, ℤ, List, [], ◌∷◌, ◌++◌, length, map, drop, slice_set}
+use Rattle.std.specs.Prelude.{◌≡◌, refl, ℕ, zero, suc, ◌+◌, ◌*◌, ◌/◌, ◌≤◌, ◌<◌, min, ℤ, pos, List, [], ◌∷◌, ◌++◌, length, map, drop}
+use Rattle.std.specs.Prelude.{slice_set}
 use Rattle.std.proofs.Common.{ap, sym, ◌∙◌, arith, get_or}
-use Rattle.std.proofs.lemmas.List.{append_assoc, append-nil, length-drop}
+use Rattle.std.proofs.lemmas.List.{append_assoc, append-nil, drop_all, drop_more, length-drop}
+use Rattle.std.proofs.lemmas.Option.{unwrap_or-slice_get}
 use Rattle.chaos_letter.specs.declared.letter.Letter.{Letter}
 use Rattle.fd_program.specs.Stores.{number_at, place_of}
 use Rattle.fd_program.specs.declared.array.ArrayFacts.{ArrayFacts}
-use Rattle.chaos_print.specs.Printing.{own_row, rows_of, filled, filled_all}
-
-drop_number : (xs : List ℤ) (k : ℕ) → k < length xs → drop k xs ≡ number_at xs k ∷ drop (suc k) xs
-drop_number [] k h = absurd (omega arith)
-drop_number (x ∷ xs) zero h = refl
-drop_number (x ∷ xs) (suc k) h = drop_number xs k (less k (length xs) h)
-  where
-    less : (k n : ℕ) → suc k < suc n → k < n
-    less k n h = omega arith
+use Rattle.chaos_print.specs.Printing.{own_row, rows_owned, filled_by_rows, filled_all}
 
 drop_next : (xs : List ℤ) (k : ℕ) → k < length xs → drop k xs ≡ number_at xs k ∷ drop (k + 1) xs
-drop_next xs k h = drop_number xs k h ∙ ap (λ n. number_at xs k ∷ drop n xs) (let z : suc k ≡ k + 1 = omega arith in z)
+drop_next xs k h = drop_more xs k (pos 0) h ∙ ap (λ n. n ∷ drop (k + 1) xs) (sym (unwrap_or-slice_get xs k (pos 0)))
 
 -- one row more
 pub rows_kept : (a : ArrayFacts) (es vs rows new total : List ℤ) (k : ℕ) (e v : ℤ) → k < length es → k < length vs → e ≡ number_at es k
     → v ≡ number_at vs k
-    → rows ++ rows_of a (drop k es) (drop k vs) ≡ total → new ≡ rows ++ own_row a e v
-    → new ++ rows_of a (drop (k + 1) es) (drop (k + 1) vs) ≡ total
+    → rows ++ rows_owned a (drop k es) (drop k vs) ≡ total → new ≡ rows ++ own_row a e v
+    → new ++ rows_owned a (drop (k + 1) es) (drop (k + 1) vs) ≡ total
 rows_kept a es vs rows new total k e v in_es in_vs e_is v_is before more =
-    let rest = rows_of a (drop (k + 1) es) (drop (k + 1) vs) in
-    let here : rows_of a (drop k es) (drop k vs) ≡ own_row a (number_at es k) (number_at vs k) ++ rest =
-    ap (λ l. rows_of a l (drop k vs)) (drop_next es k in_es) ∙ ap (λ l. rows_of a (number_at es k ∷ drop (k + 1) es) l)
+    let rest = rows_owned a (drop (k + 1) es) (drop (k + 1) vs) in
+    let here : rows_owned a (drop k es) (drop k vs) ≡ own_row a (number_at es k) (number_at vs k) ++ rest =
+    ap (λ l. rows_owned a l (drop k vs)) (drop_next es k in_es) ∙ ap (λ l. rows_owned a (number_at es k ∷ drop (k + 1) es) l)
     (drop_next vs k in_vs) in
     let row : own_row a e v ≡ own_row a (number_at es k) (number_at vs k) = ap (λ z. own_row a z v) e_is
     ∙ ap (λ z. own_row a (number_at es k) z) v_is in
@@ -34,11 +28,11 @@ rows_kept a es vs rows new total k e v in_es in_vs e_is v_is before more =
     ∙ append_assoc rows (own_row a (number_at es k) (number_at vs k)) rest
     ∙ ap (λ (l : List ℤ). rows ++ l) (sym here) ∙ before
 
-rows_nil : (a : ArrayFacts) (es : List ℤ) → rows_of a es [] ≡ []
+rows_nil : (a : ArrayFacts) (es : List ℤ) → rows_owned a es [] ≡ []
 rows_nil a [] = refl
 rows_nil a (e ∷ es) = refl
 
-rows_over : (a : ArrayFacts) (es vs : List ℤ) (k : ℕ) → min (length es) (length vs) ≤ k → rows_of a (drop k es) (drop k vs) ≡ []
+rows_over : (a : ArrayFacts) (es vs : List ℤ) (k : ℕ) → min (length es) (length vs) ≤ k → rows_owned a (drop k es) (drop k vs) ≡ []
 rows_over a [] vs zero h = refl
 rows_over a [] vs (suc k) h = refl
 rows_over a (e ∷ es) [] zero h = refl
@@ -54,14 +48,14 @@ rows_over a (e ∷ es) (v ∷ vs) (suc k) h = rows_over a es vs k (less (length 
 
 -- no row more
 pub rows_ended : (a : ArrayFacts) (es vs rows total : List ℤ) (k : ℕ) → min (length es) (length vs) ≤ k
-    → rows ++ rows_of a (drop k es) (drop k vs) ≡ total → rows ≡ total
+    → rows ++ rows_owned a (drop k es) (drop k vs) ≡ total → rows ≡ total
 rows_ended a es vs rows total k over all =
     sym (append-nil rows) ∙ ap (λ (l : List ℤ). rows ++ l) (sym (rows_over a es vs k over)) ∙ all
 
 -- one row more is put in
 pub fill_kept : (values new rows total : List ℤ) (k p : ℕ) (z v : ℤ) → k < length rows / 2 → z ≡ number_at rows (2 * k)
     → v ≡ number_at rows (2 * k + 1) → p ≡ place_of z
-    → filled values (drop (2 * k) rows) ≡ total → new ≡ slice_set values p v → filled new (drop (2 * (k + 1)) rows) ≡ total
+    → filled_by_rows values (drop (2 * k) rows) ≡ total → new ≡ slice_set values p v → filled_by_rows new (drop (2 * (k + 1)) rows) ≡ total
 fill_kept values new rows total k p z v less z_is v_is p_is before set =
     let first : drop (2 * k) rows ≡ number_at rows (2 * k) ∷ drop (2 * k + 1) rows = drop_next rows (2 * k) (omega (arith, less)) in
     let second : drop (2 * k + 1) rows ≡ number_at rows (2 * k + 1) ∷ drop (2 * k + 1 + 1) rows =
@@ -71,9 +65,9 @@ fill_kept values new rows total k p z v less z_is v_is p_is before set =
     let both : drop (2 * k) rows ≡ z ∷ v ∷ rest =
     first ∙ ap (λ (l : List ℤ). number_at rows (2 * k) ∷ l) (second ∙ ap (λ (l : List ℤ). number_at rows (2 * k + 1) ∷ l) behind)
     ∙ ap (λ (x : ℤ). x ∷ number_at rows (2 * k + 1) ∷ rest) (sym z_is) ∙ ap (λ (x : ℤ). z ∷ x ∷ rest) (sym v_is) in
-    ap (λ (l : List ℤ). filled l rest) (set ∙ ap (λ n. slice_set values n v) p_is) ∙ ap (filled values) (sym both) ∙ before
+    ap (λ (l : List ℤ). filled_by_rows l rest) (set ∙ ap (λ n. slice_set values n v) p_is) ∙ ap (filled_by_rows values) (sym both) ∙ before
 
-filled_short : (values xs : List ℤ) → length xs < 2 → filled values xs ≡ values
+filled_short : (values xs : List ℤ) → length xs < 2 → filled_by_rows values xs ≡ values
 filled_short values [] h = refl
 filled_short values (z ∷ []) h = refl
 filled_short values (z ∷ v ∷ rows) h = absurd (more (length rows) h)
@@ -82,18 +76,13 @@ filled_short values (z ∷ v ∷ rows) h = absurd (more (length rows) h)
     more n h = omega arith
 
 -- all rows are put in
-pub fill_ended : (values rows total : List ℤ) (k : ℕ) → length rows / 2 ≤ k → filled values (drop (2 * k) rows) ≡ total → values ≡ total
+pub fill_ended : (values rows total : List ℤ) (k : ℕ) → length rows / 2 ≤ k → filled_by_rows values (drop (2 * k) rows) ≡ total → values
+    ≡ total
 fill_ended values rows total k over all =
     sym (filled_short values (drop (2 * k) rows) (omega (arith, over, length-drop (2 * k) rows))) ∙ all
 
 drop_letter : (xs : List Letter) (k : ℕ) (x : Letter) → k < length xs → x ≡ get_or xs k x → drop k xs ≡ x ∷ drop (k + 1) xs
-drop_letter [] k x h e = absurd (omega arith)
-drop_letter (y ∷ ys) zero x h e = ap (λ (z : Letter). z ∷ ys) (sym e)
-drop_letter (y ∷ ys) (suc k) x h e =
-    drop_letter ys k x (less k (length ys) h) e ∙ ap (λ n. x ∷ drop n (y ∷ ys)) (let z : suc (k + 1) ≡ suc k + 1 = omega arith in z)
-  where
-    less : (k n : ℕ) → suc k < suc n → k < n
-    less k n h = omega arith
+drop_letter xs k x h e = drop_more xs k x h ∙ ap (λ (z : Letter). z ∷ drop (k + 1) xs) (sym e)
 
 abbrev pub numbers_of : List Letter → List (List ℤ)
 numbers_of letters = map (λ (x : Letter). x.numbers) letters
@@ -101,24 +90,12 @@ numbers_of letters = map (λ (x : Letter). x.numbers) letters
 -- one letter more
 pub letters_kept : (values new numbers total : List ℤ) (letters : List Letter) (k : ℕ) (x : Letter) → k < length letters
     → x ≡ get_or letters k x → numbers ≡ x.numbers
-    → filled_all values (numbers_of (drop k letters)) ≡ total → new ≡ filled values numbers
+    → filled_all values (numbers_of (drop k letters)) ≡ total → new ≡ filled_by_rows values numbers
     → filled_all new (numbers_of (drop (k + 1) letters)) ≡ total
 letters_kept values new numbers total letters k x less here same before fill =
-    ap (λ (l : List ℤ). filled_all l (numbers_of (drop (k + 1) letters))) (fill ∙ ap (filled values) same)
+    ap (λ (l : List ℤ). filled_all l (numbers_of (drop (k + 1) letters))) (fill ∙ ap (filled_by_rows values) same)
     ∙ ap (λ l. filled_all values (numbers_of l)) (sym (drop_letter letters k x less here)) ∙ before
-
-drop_over : (xs : List Letter) (k : ℕ) → length xs ≤ k → drop k xs ≡ []
-drop_over [] zero h = refl
-drop_over [] (suc k) h = refl
-drop_over (x ∷ xs) zero h = absurd (none (length xs) h)
-  where
-    none : (n : ℕ) → suc n ≤ 0 → ⊥
-    none n h = omega arith
-drop_over (x ∷ xs) (suc k) h = drop_over xs k (less (length xs) k h)
-  where
-    less : (n k : ℕ) → suc n ≤ suc k → n ≤ k
-    less n k h = omega arith
 
 pub letters_ended : (values total : List ℤ) (letters : List Letter) (k : ℕ) → length letters ≤ k
     → filled_all values (numbers_of (drop k letters)) ≡ total → values ≡ total
-letters_ended values total letters k over all = ap (λ l. filled_all values (numbers_of l)) (sym (drop_over letters k over)) ∙ all
+letters_ended values total letters k over all = ap (λ l. filled_all values (numbers_of l)) (sym (drop_all k letters over)) ∙ all

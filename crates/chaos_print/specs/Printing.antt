@@ -24,24 +24,24 @@ abbrev pub own_row : ArrayFacts → ℤ → ℤ → List ℤ
 own_row a e value = row_of (number_if (is_row a.extent (e -ℤ a.offset)) (e -ℤ a.offset)) value
 
 -- the rows of these elements with these values beside them
-abbrev pub rows_of : ArrayFacts → List ℤ → List ℤ → List ℤ
-rows_of a (e ∷ es) (v ∷ vs) = own_row a e v ++ rows_of a es vs
-rows_of a _ _ = []
+abbrev pub rows_owned : ArrayFacts → List ℤ → List ℤ → List ℤ
+rows_owned a (e ∷ es) (v ∷ vs) = own_row a e v ++ rows_owned a es vs
+rows_owned a _ _ = []
 
 -- the rows of an array on a node, whose elements and local parts these are
 abbrev pub rows_held : List ArrayFacts → List (List ℤ) → List (List ℤ) → ℕ → List ℤ
-rows_held arrays elements parts array = rows_of (array_at arrays array) (list_at elements (decomposition_of arrays array))
+rows_held arrays elements parts array = rows_owned (array_at arrays array) (list_at elements (decomposition_of arrays array))
     (list_at parts array)
 
 -- the value of each row at its element
-abbrev pub filled : List ℤ → List ℤ → List ℤ
-filled values (z ∷ v ∷ rows) = filled (slice_set values (place_of z) v) rows
-filled values _ = values
+abbrev pub filled_by_rows : List ℤ → List ℤ → List ℤ
+filled_by_rows values (z ∷ v ∷ rows) = filled_by_rows (slice_set values (place_of z) v) rows
+filled_by_rows values _ = values
 
 -- several lists of rows, one after another
 abbrev pub filled_all : List ℤ → List (List ℤ) → List ℤ
 filled_all values [] = values
-filled_all values (rows ∷ rest) = filled_all (filled values rows) rest
+filled_all values (rows ∷ rest) = filled_all (filled_by_rows values rows) rest
 
 -- node 0 puts the rows of all nodes at their places, its own first, and writes the line; the others write nothing
 abbrev pub print_text : List ArrayFacts → ℕ → ℕ → List ℤ → List Letter → List ℕ

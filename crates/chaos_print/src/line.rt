@@ -2,7 +2,7 @@ ghost use Rattle.std.specs.Prelude.{◌≡◌, ◌∷◌, map, pos, replicate, I
 ghost use Rattle.chaos_letter.specs.declared.letter.Letter.{Letter as ALetter};
 ghost use Rattle.fd_program.specs.Stores.{place_of};
 ghost use Rattle.fd_program.specs.Texts.{line_of as the_line};
-ghost use Rattle.chaos_print.specs.Printing.{filled, filled_all, print_text};
+ghost use Rattle.chaos_print.specs.Printing.{filled_by_rows, filled_all, print_text};
 
 use crate::rows::at;
 use chaos_letter::Letter;
@@ -20,7 +20,7 @@ fn place(element: i64) -> u64
 
 /// Puts the value of each row at its element.
 fn fill(values: &mut Numbers, rows: &[i64])
-    ensures { values.new ≡ filled values.old rows.now }
+    ensures { values.new ≡ filled_by_rows values.old rows.now }
 {
     for k in 0..rows.len() / 2 {
         let element = at(rows, 2 * k);
@@ -36,7 +36,7 @@ fn values_of(
     own: &Numbers,
     letters: &[Letter],
 ) -> Result<Numbers, Memory>
-    ensures { IfOk result (λ values. values ≡ filled_all (filled (replicate extent (pos 0)) own.now)
+    ensures { IfOk result (λ values. values ≡ filled_all (filled_by_rows (replicate extent (pos 0)) own.now)
         (map (λ (x : ALetter). x.numbers) letters.now)) }
 {
     let mut values = Numbers::zeros(alloc, extent)?;

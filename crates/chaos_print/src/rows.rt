@@ -1,7 +1,7 @@
 ghost use Rattle.std.specs.Prelude.{◌≡◌, ◌-ℤ◌, ◌++◌, [], ◌∷◌, IfOk, OnOk};
 ghost use Rattle.fd_program.specs.Stores.{array_at, number_at};
 ghost use Rattle.fd_words.specs.Lists.{list_at};
-ghost use Rattle.chaos_print.specs.Printing.{is_row, number_if, own_row, rows_held, rows_of};
+ghost use Rattle.chaos_print.specs.Printing.{is_row, number_if, own_row, rows_held, rows_owned};
 
 use fd_program::{ArrayFacts, ArrayList, array_at};
 use fd_words::{Memory, NumberLists, Numbers};
@@ -58,7 +58,7 @@ fn rows_on(
     elements: &[i64],
     part: &[i64],
 ) -> Result<Numbers, Memory>
-    ensures { IfOk result (λ rows. rows ≡ rows_of facts.now elements.now part.now) }
+    ensures { IfOk result (λ rows. rows ≡ rows_owned facts.now elements.now part.now) }
 {
     let mut rows = Numbers::new(alloc);
     let count = elements.len().min(part.len());

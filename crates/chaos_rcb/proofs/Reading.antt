@@ -1,22 +1,15 @@
 -- Files that are read one after another.
-use Rattle.std.proofs.Common.{◌≡◌, ℕ, ◌+◌, ◌<◌, List, [], ◌∷◌, ◌++◌, length, map, take, drop, get_or, Result, Ok, Err, ap, sym, ◌∙◌, subst}
-use Rattle.std.proofs.Common.{arith}
-use Rattle.std.specs.Prelude.{ℤ, IfOk}
+use Rattle.std.proofs.Common.{◌≡◌, ℕ, ◌+◌, ◌<◌, List, [], ◌∷◌, ◌++◌, length, map, take, drop, get_or, Ok, ap, sym, ◌∙◌}
+use Rattle.std.specs.Prelude.{ℤ}
 use Rattle.std.proofs.lemmas.List.{drop_more, take_more, take-append-drop, map-append}
 use Rattle.fd_outside.specs.Causes.{NoneFell}
-use Rattle.fd_words.specs.declared.wanting.Memory as wanting
-use Rattle.fd_edge.specs.Endings.{StopsAs, stop_of}
+use Rattle.fd_edge.specs.Endings.{StopsAs}
 use Rattle.fd_edge.specs.EndLaws.{stops_more}
-use Rattle.fd_edge.specs.Files.{Reads, HasDataFault}
-use Rattle.fd_edge.specs.Readings.{Told, Counts, Reading, reading, rose_within}
+use Rattle.fd_edge.specs.Files.{Reads}
+use Rattle.fd_edge.specs.Readings.{Told, Counts, reading}
+use Rattle.fd_edge.specs.Unusable.{IsUnusable, unusable_within}
 use Rattle.fd_edge.specs.declared.ending.Stop.{Stop}
-use Rattle.chaos_rcb.specs.Columns.{AreRead, IsUnusable, NoColumns}
-
--- the line of a file that gives no column
-pub stops_with : (r : Reading) (count : ℕ) (name : List ℕ) (status : ℕ) (line : Result (List ℕ) wanting.Memory) (bytes : List ℕ)
-    → IfOk line (λ l. l ≡ bytes) → IsUnusable r count name status bytes → StopsAs (IsUnusable r count name) (stop_of status line)
-stops_with r count name status (Ok line) bytes is unusable = subst (IsUnusable r count name status) (sym is) unusable
-stops_with r count name status (Err memory) bytes is unusable = tt
+use Rattle.chaos_rcb.specs.Columns.{AreRead, NoColumns}
 
 -- one file more was read
 pub all_read : (contents : Told) (count : ℕ) (names : List (List ℕ)) (columns : List (List ℤ)) (name : List ℕ) (column : List ℤ)
@@ -38,15 +31,6 @@ module _ {X : Type 0} (text : X → List ℕ) (names : List X) (i : ℕ) (item :
       ap (map text) (sym (take-append-drop i names)
       ∙ ap (λ rest. take i names ++ rest) (drop_more names i item less ∙ ap (λ x. x ∷ drop (i + 1) names) (sym is)))
       ∙ map-append text (take i names) (item ∷ drop (i + 1) names)
-
--- a file that gave no column in a part of a call
-pub unusable_within : (contents from_contents : Told) (before from now : Counts) (count : ℕ) (name : List ℕ) (status : ℕ) (line : List ℕ)
-    → from_contents ≡ contents → NoneFell before from → IsUnusable (reading from_contents from now) count name status line
-    → IsUnusable (reading contents before now) count name status line
-unusable_within contents from_contents before from now count name status line same none (IsUnusable.unread rose) =
-    IsUnusable.unread (rose_within (before name) (from name) (now name) (now name) (none name) (omega arith) rose)
-unusable_within contents from_contents before from now count name status line same none (IsUnusable.faulty fault has) =
-    IsUnusable.faulty fault (subst (λ told. HasDataFault told name count fault) same has)
 
 -- the first file that gave no column
 pub no_columns : (contents from_contents : Told) (before from now : Counts) (count : ℕ) (names earlier later : List (List ℕ))

@@ -28,5 +28,5 @@ abbrev pub asked_to_bisect : List (List ℕ) → Option AskedToBisect
 asked_to_bisect (parts ∷ count ∷ nodes ∷ words) = asked_by (number_in 1 64 parts) (number_in 1 1048576 count) (number_in 1 16 nodes) words
 asked_to_bisect other = None
 
-abbrev pub shown : Asked → AskedToBisect
-shown asked = record { parts = asked.parts; count = asked.count; nodes = asked.nodes; files = map string_bytes asked.files.now }
+abbrev pub shown_asked : Asked → AskedToBisect
+shown_asked asked = record { parts = asked.parts; count = asked.count; nodes = asked.nodes; files = map string_bytes asked.files.now }

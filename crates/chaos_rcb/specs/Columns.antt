@@ -1,11 +1,9 @@
 -- The coordinates that files give: one file for each axis, in the order of the axes.
 use Rattle.std.specs.Prelude.{ℕ, ℤ, ◌≡◌, List, [], ◌∷◌, ◌++◌, Result, Ok, Err}
-use Rattle.fd_outside.specs.Causes.{Rose}
-use Rattle.fd_data.specs.declared.read.DataFault.{DataFault}
 use Rattle.fd_edge.specs.Endings.{StopsAs}
-use Rattle.fd_edge.specs.Files.{Reads, HasDataFault}
-use Rattle.fd_edge.specs.Lines.{data_line, unread_line}
+use Rattle.fd_edge.specs.Files.{Reads}
 use Rattle.fd_edge.specs.Readings.{Told, Reading}
+use Rattle.fd_edge.specs.Unusable.{IsUnusable}
 use Rattle.fd_edge.specs.declared.ending.Stop.{Stop}
 
 -- each of these files was read and gave the column in its place
@@ -14,11 +12,6 @@ AreRead contents count [] [] = Unit {0}
 AreRead contents count [] (column ∷ columns) = ⊥
 AreRead contents count (name ∷ names) [] = ⊥
 AreRead contents count (name ∷ names) (column ∷ columns) = Reads contents name count (Ok column) × AreRead contents count names columns
-
--- why a file gives no column, with the status and the line that say so: it can't be read, or has a fault
-pub data IsUnusable (r : Reading) (count : ℕ) (name : List ℕ) : ℕ → List ℕ → Type 0 where
-  unread : Rose (r.before name) (r.now name) → IsUnusable r count name 69 (unread_line name)
-  faulty : (fault : DataFault) → HasDataFault r.contents name count fault → IsUnusable r count name 66 (data_line name fault)
 
 -- what comes of one file
 abbrev pub IsColumnEnd : Reading → ℕ → List ℕ → Result (List ℤ) Stop → Type 0

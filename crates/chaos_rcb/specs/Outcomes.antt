@@ -1,7 +1,8 @@
 -- What comes of a call, what it answers, and what it says where nothing failed.
-use Rattle.std.specs.Prelude.{ℕ, ℤ, ◌≡◌, ◌⊎◌, ◌++◌, ◌<◌, ◌==◌, List, ◌∷◌, Option, Some, None, IsSomeAnd, codes, count_by}
+use Rattle.std.specs.Prelude.{ℕ, ℤ, ◌≡◌, ◌⊎◌, ◌++◌, ◌<◌, ◌==◌, List, ◌∷◌, Option, Some, IsSomeAnd, codes, count_by}
 use Rattle.fd_outside.specs.Causes.{Rose}
-use Rattle.fd_edge.specs.Endings.{EndsBy, IsComplete, IsWhole, Left, Outcome, a_line}
+use Rattle.fd_edge.specs.Comes.{Comes, HasRun}
+use Rattle.fd_edge.specs.Endings.{EndsBy, IsComplete, Left, Outcome}
 use Rattle.fd_edge.specs.Readings.{Reading}
 use Rattle.chaos_letter.specs.declared.letter.Letter.{Letter}
 use Rattle.bsp_desk.specs.Uniform.{letters_of}
@@ -18,8 +19,8 @@ unfoldable pub usage_line : List ℕ
 usage_line = codes "usage: chaosbisect PARTS COUNT NODES FILE [FILE [FILE]]\n"
 
 -- the letters that are due in a plan
-abbrev pub due_in : BisectPlan → ℕ → ℕ → List Letter
-due_in plan p q = letters_of (phases_of plan.parts) (round_at plan) p q
+abbrev pub due_by_plan : BisectPlan → ℕ → ℕ → List Letter
+due_by_plan plan p q = letters_of (phases_of plan.parts) (round_at plan) p q
 
 -- the plan of what was asked for, with these coordinates
 abbrev pub plan_by : ℕ → ℕ → ℕ → List (List ℤ) → BisectPlan
@@ -39,27 +40,31 @@ abbrev pub plan_in : {request : Option AskedToBisect} {r : Reading} → Accepted
 plan_in a = plan_for a.asked a.columns
 
 -- each part has as many elements as all, the first ones one more
-abbrev pub HasShares : BisectPlan → Type 0
-HasShares plan = (i : ℕ) → i < plan.parts
+abbrev pub HasPartSizes : BisectPlan → Type 0
+HasPartSizes plan = (i : ℕ) → i < plan.parts
     → count_by (λ part. part == i) (map_of plan.axes plan.parts plan.count) ≡ share_of plan.count plan.parts i
 
 -- a run: the map, and between any two nodes just the letters that its regions and keys give
 pub record Runs (plan : BisectPlan) (o : Outcome Mail) : Type 0 where
   pub status : o.status ≡ 0
   pub bytes : o.bytes ≡ text_of plan
-  pub shares : HasShares plan
-  pub letters : IsSomeAnd o.letters (λ mail. AreDue plan.nodes (due_in plan) mail.seats.items)
+  pub shares : HasPartSizes plan
+  pub letters : IsSomeAnd o.letters (λ mail. AreDue plan.nodes (due_by_plan plan) mail.seats.items)
+
+-- what stops it: a file that gives no coordinates
+abbrev pub IsStop : Reading → AskedToBisect → ℕ → List ℕ → Type 0
+IsStop r w status line = NoColumns r w.count w.files status line
+
+abbrev pub IsRun : (request : Option AskedToBisect) (r : Reading) → Accepted request r → Outcome Mail → Type 0
+IsRun request r a o = Runs (plan_in a) o
 
 -- the usage line for words that aren't taken; or for what they ask for a line where a file gives no coordinates, and else its run
-pub data ToCome (request : Option AskedToBisect) (r : Reading) : Outcome Mail → Type 0 where
-  untaken : request ≡ None → ToCome request r (a_line 2 usage_line)
-  stopped : (w : AskedToBisect) → request ≡ Some w → (status : ℕ) (line : List ℕ) → NoColumns r w.count w.files status line
-      → ToCome request r (a_line status line)
-  ran : (a : Accepted request r) → (o : Outcome Mail) → Runs (plan_in a) o → ToCome request r o
+abbrev pub ToCome : Option AskedToBisect → Reading → Outcome Mail → Type 0
+ToCome request r = Comes usage_line (IsStop r) (Accepted request r) (IsRun request r) request
 
 -- where memory is wanting: the Mail is as it was, or has the first of the letters of a run of what words ask for
 abbrev pub IsCut : Option AskedToBisect → Reading → Mail → Mail → Type 0
-IsCut request r old new = (new ≡ old) ⊎ ((a : Accepted request r) × AreCut (plan_in a).nodes (due_in (plan_in a)) new.seats.items)
+IsCut request r old new = (new ≡ old) ⊎ ((a : Accepted request r) × AreCut (plan_in a).nodes (due_by_plan (plan_in a)) new.seats.items)
 
 abbrev pub IsAnswered : Option AskedToBisect → Reading → ℕ → Left Mail → Left Mail → Type 0
 IsAnswered request r result old new = EndsBy (ToCome request r) (IsCut request r) result old new
@@ -84,8 +89,5 @@ IsCompleted request r result old new =
     (Rose old.failures new.failures → ⊥) → NoneFailed request r → IsComplete (ToCome request r) (IsCut request r) result old new
 
 -- the elements were bisected right, the map was written whole, and the letters stand
-pub record RanRight (request : Option AskedToBisect) (r : Reading) (result : ℕ) (old new : Left Mail) : Type 0 where
-  pub accepted : Accepted request r
-  pub outcome : Outcome Mail
-  pub run : Runs (plan_in accepted) outcome
-  pub whole : IsWhole outcome result old new
+abbrev pub RanRight : Option AskedToBisect → Reading → ℕ → Left Mail → Left Mail → Type 0
+RanRight request r result old new = HasRun (Accepted request r) (IsRun request r) result old new

@@ -1,7 +1,7 @@
 ghost use Rattle.std.specs.Prelude.{◌≡◌, ◌≤◌, length, map, string_bytes, option_map, IfSome};
 ghost use Rattle.std.specs.List.{list_all};
 ghost use Rattle.fd_spell.specs.Spelled.{is_name};
-ghost use Rattle.chaos_rcb.specs.Asked.{are_files, asked_to_bisect, shown};
+ghost use Rattle.chaos_rcb.specs.Asked.{are_files, asked_to_bisect, shown_asked};
 
 use fd_spell::{is_name, number};
 
@@ -38,7 +38,7 @@ fn are_files(words: &[String]) -> bool
 /// What the words ask for, if they are PARTS, COUNT, NODES and one to three files: 1 to 64 parts and not more than
 /// elements, 1 to 1,048,576 elements, 1 to 16 nodes.
 pub(crate) fn asked_by<'a>(words: &'a [String]) -> Option<Asked<'a>>
-    ensures asked { option_map shown result ≡ asked_to_bisect (map string_bytes words.entry.now) }
+    ensures asked { option_map shown_asked result ≡ asked_to_bisect (map string_bytes words.entry.now) }
     ensures fits { IfSome result (λ a. (1 ≤ a.parts) × (a.parts ≤ 64) × (a.parts ≤ a.count) × (a.count ≤ 1048576) × (1 ≤ a.nodes)
         × (a.nodes ≤ 16) × (1 ≤ length a.files.now) × (length a.files.now ≤ 3)) }
 {

@@ -1,25 +1,12 @@
-ghost use Rattle.std.specs.Prelude.{◌≡◌, ℕ, map, string_bytes, Err};
+ghost use Rattle.std.specs.Prelude.{◌≡◌, map, string_bytes};
 ghost use Rattle.fd_outside.specs.Causes.{NoneFell};
-ghost use Rattle.fd_edge.specs.Endings.{StopsAs};
-ghost use Rattle.fd_edge.specs.Files.{IsFileEnd};
-ghost use Rattle.fd_edge.specs.Readings.{Reading, files_read};
-ghost use Rattle.chaos_rcb.specs.Columns.{IsColumnEnd, IsColumnsEnd, IsUnusable};
+ghost use Rattle.fd_edge.specs.Readings.{files_read};
+ghost use Rattle.chaos_rcb.specs.Columns.{IsColumnEnd, IsColumnsEnd};
 
-use fd_edge::{FileStop, Stop, fault_line, read_numbers, unread_line};
+use fd_edge::{Stop, read_numbers, stop_for};
 use fd_outside::Files;
 use fd_words::{NumberLists, Numbers};
 use std::alloc::Global;
-
-/// The line for a file that gave no numbers, with its status.
-fn stop_for(alloc: Global, name: &str, stop: FileStop) -> Stop
-    ensures { (r : Reading) (count : ℕ) → IsFileEnd r name.now count (Err stop) → StopsAs (IsUnusable r count name.now) result }
-{
-    match stop {
-        FileStop::Unread => Stop::of(69, unread_line(alloc, name)),
-        FileStop::Fault(fault) => Stop::of(66, fault_line(alloc, name.as_bytes(), fault)),
-        FileStop::Memory => Stop::Memory,
-    }
-}
 
 /// The coordinates on one axis: the numbers of its file.
 fn column<F: Files>(alloc: Global, files: &mut F, name: &str, count: u64) -> Result<Numbers, Stop>

@@ -6,7 +6,7 @@ ghost use Rattle.chaos_cut.specs.Regions.{AreSigned};
 ghost use Rattle.bisect_node.specs.Plans.{text_of};
 ghost use Rattle.bisect_node.specs.States.{BisectState};
 ghost use Rattle.chaos_rcb.specs.Jobs.{plan_of};
-ghost use Rattle.chaos_rcb.specs.Outcomes.{due_in};
+ghost use Rattle.chaos_rcb.specs.Outcomes.{due_by_plan};
 
 use bisect_node::{BisectNode, Job, bisect_nodes};
 use bsp_core::NodeList;
@@ -42,9 +42,9 @@ pub(crate) fn run_bisect<R: Threads + Wait + Sync, G: Gate>(
     requires signed { AreSigned columns.now }
     requires fresh { IsFresh mail.old.queues mail.old.seats.items }
     ensures text { IfOk result (λ text. text ≡ text_of (plan_of job.now columns.now)) }
-    ensures letters { OnOk result (AreDue job.now.nodes (due_in (plan_of job.now columns.now)) mail.new.seats.items) }
+    ensures letters { OnOk result (AreDue job.now.nodes (due_by_plan (plan_of job.now columns.now)) mail.new.seats.items) }
     ensures cut { OnErr result ((mail.new ≡ mail.old)
-        ⊎ AreCut job.now.nodes (due_in (plan_of job.now columns.now)) mail.new.seats.items) }
+        ⊎ AreCut job.now.nodes (due_by_plan (plan_of job.now columns.now)) mail.new.seats.items) }
     ensures queues { mail.new.queues ≡ mail.old.queues }
 {
     due_law::<BisectNode>();

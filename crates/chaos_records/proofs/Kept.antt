@@ -25,7 +25,8 @@ use Rattle.fd_program.specs.declared.reference.Reference.{Reference}
 use Rattle.fd_program.specs.declared.trace.LoopTurn.{LoopTurn}
 use Rattle.fd_program.specs.declared.trace.Step.{Step}
 use Rattle.fd_program.specs.declared.trace.Step.TheVariants.{Distribute, Print, Forall}
-use Rattle.chaos_records.specs.Keeping.{Keeps, first_setting, setting_in, change_by, is_form_again, is_repeated, written, set_to, differs}
+use Rattle.chaos_records.specs.Keeping.{Keeps, first_setting, setting_in, change_by, is_form_again, is_repeated, written_at, set_to}
+use Rattle.chaos_records.specs.Keeping.{differs}
 use Rattle.chaos_records.specs.Keeping.{change_set, setting_of, setting_at}
 use Rattle.chaos_records.specs.KeepingLaws.{NewKeeps, PrintKeeps, WritesKeep, MoveKeeps, RecordsAreExact, InspectionsAreKnown}
 use Rattle.chaos_records.specs.KeepingLaws.{VersionsAreFew}
@@ -64,18 +65,19 @@ over false true v old = refl
 over false false v old = refl
 
 all_written : (execution n : ℕ) (arrays : List ℕ) (f : ℕ → ℤ) (r : Records) → r.changes ≡ map f (below n)
-    → (fold (written execution) r arrays).changes ≡ map (λ a. if list_any (λ w. w == a) arrays then pos (execution + 1) else f a) (below n)
+    → (fold (written_at execution) r arrays).changes
+    ≡ map (λ a. if list_any (λ w. w == a) arrays then pos (execution + 1) else f a) (below n)
 all_written execution n [] f r e = e
 all_written execution n (w ∷ ws) f r e =
     let v = pos (execution + 1) in
-    all_written execution n ws (λ a. if w == a then v else f a) (written execution r w) (ap (λ l. slice_set l w v) e ∙ set_below f v n w)
+    all_written execution n ws (λ a. if w == a then v else f a) (written_at execution r w) (ap (λ l. slice_set l w v) e ∙ set_below f v n w)
     ∙ same_map (λ a. if list_any (λ w. w == a) ws then v else (if w == a then v else f a)) (λ a. if (w == a) || list_any (λ w. w == a) ws
     then v else f a) 0 n
     (λ a low high. over (list_any (λ w. w == a) ws) (w == a) v (f a))
 
-settings_stay : (execution : ℕ) (arrays : List ℕ) (r : Records) → (fold (written execution) r arrays).settings ≡ r.settings
+settings_stay : (execution : ℕ) (arrays : List ℕ) (r : Records) → (fold (written_at execution) r arrays).settings ≡ r.settings
 settings_stay execution [] r = refl
-settings_stay execution (w ∷ ws) r = settings_stay execution ws (written execution r w)
+settings_stay execution (w ∷ ws) r = settings_stay execution ws (written_at execution r w)
 
 pos_if : (b : Bool) (x y : ℕ) → (if b then pos x else pos y) ≡ pos (if b then x else y)
 pos_if true x y = refl

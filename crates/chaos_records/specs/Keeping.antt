@@ -52,8 +52,8 @@ abbrev pub is_repeated : Records → ℕ → StepForm → Bool
 is_repeated r d form = is_as (setting_in r d) form (change_by r form)
 
 -- an array is changed by the execution with this number
-abbrev pub written : ℕ → Records → ℕ → Records
-written execution r array = record { changes = slice_set r.changes array (pos (execution + 1)); settings = r.settings }
+abbrev pub written_at : ℕ → Records → ℕ → Records
+written_at execution r array = record { changes = slice_set r.changes array (pos (execution + 1)); settings = r.settings }
 
 -- a decomposition is given a form
 abbrev pub set_to : Records → ℕ → StepForm → Setting

@@ -10,7 +10,7 @@ use Rattle.fd_program.specs.declared.checked.Checked.{Checked}
 use Rattle.fd_program.specs.declared.trace.LoopTurn.{LoopTurn}
 use Rattle.fd_program.specs.declared.trace.Step.{Step}
 use Rattle.fd_program.specs.declared.trace.Step.TheVariants.{Distribute, Print, Forall}
-use Rattle.chaos_records.specs.Keeping.{Keeps, no_records, written, moved, is_repeated, record_in, differs}
+use Rattle.chaos_records.specs.Keeping.{Keeps, no_records, written_at, moved, is_repeated, record_in, differs}
 use Rattle.chaos_records.specs.declared.records.Records.{Records}
 
 -- before the first step
@@ -26,7 +26,7 @@ abbrev pub WritesKeep : Type 0
 WritesKeep =
     (c : Checked) (past : List Step) (site : ℕ) (turn : LoopTurn) (arrays : List ℕ) (r : Records) → Keeps c past r
     → ((array : ℕ) → array < length c.arrays → list_any (λ a. a == array) arrays ≡ is_changing c site turn array)
-    → Keeps c (Forall site turn ∷ past) (fold (written (length past)) r arrays)
+    → Keeps c (Forall site turn ∷ past) (fold (written_at (length past)) r arrays)
 
 -- a DISTRIBUTE: it is found to be a repeat exactly where it is one
 abbrev pub MoveKeeps : Type 0

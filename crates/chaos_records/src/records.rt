@@ -1,6 +1,6 @@
 ghost use Rattle.std.specs.Prelude.{◌≡◌, ◌<◌, ◌<ℤ◌, ◌^◌, pos, not, length, IfOk};
 ghost use Rattle.fd_program.specs.Stores.{number_at};
-ghost use Rattle.chaos_records.specs.Keeping.{change_by, is_repeated, moved, no_records, setting_in, written};
+ghost use Rattle.chaos_records.specs.Keeping.{change_by, is_repeated, moved, no_records, setting_in, written_at};
 
 use crate::setting::Setting;
 use chaos_dist::StepForm;
@@ -33,7 +33,7 @@ impl Records {
     pub fn note_write(&mut self, array: u32, execution: u64)
         requires array { array < length self.old.changes }
         requires execution { execution < 2 ^ 32 }
-        ensures { self.new ≡ written execution self.old array }
+        ensures { self.new ≡ written_at execution self.old array }
     {
         self.changes.set(u64::from(array), execution as i64 + 1);
     }

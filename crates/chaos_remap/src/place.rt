@@ -1,9 +1,8 @@
-ghost use Rattle.std.specs.Prelude.{◌≡◌, ◌≤◌, map, IfOk};
-ghost use Rattle.chaos_remap.specs.Rows.{column_of, value_in};
+ghost use Rattle.std.specs.Prelude.{◌≡◌, ◌≤◌, IfOk};
 ghost use Rattle.chaos_remap.specs.Remapped.{remapped};
+ghost use Rattle.chaos_remap.specs.Rows.{column_of};
 
-use crate::numbers::{list_of, number_behind};
-use crate::rows::{Row, read_rows};
+use crate::rows::{Row, read_rows, value_of};
 use fd_words::{Memory, NumberLists, Numbers};
 use list_laws::ascend;
 use std::alloc::Global;
@@ -41,10 +40,4 @@ fn column(alloc: Global, taken: &NumberLists, rows: &[Row], place: u32) -> Resul
         numbers.push(value_of(taken, *row, place))?;
     }
     Ok(numbers)
-}
-
-fn value_of(taken: &NumberLists, row: Row, place: u32) -> i64
-    ensures { result ≡ value_in taken.now place row }
-{
-    number_behind(list_of(taken, row.sender), row.start, place)
 }

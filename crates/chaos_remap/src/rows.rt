@@ -1,7 +1,7 @@
 ghost use Rattle.std.specs.Prelude.{◌≡◌, ◌≤◌, ◌<◌, ◌/◌, ◌++◌, length, OnOk, IfOk};
-ghost use Rattle.chaos_remap.specs.Rows.{rows_in, rows_of, row_of};
+ghost use Rattle.chaos_remap.specs.Rows.{rows_in, rows_of, row_of, value_in};
 
-use crate::numbers::{list_of, number_of};
+use crate::numbers::{list_of, number_behind, number_of};
 use fd_words::{Memory, NumberLists};
 use std::alloc::Global;
 
@@ -46,4 +46,11 @@ fn row_at(numbers: &[i64], row: usize, sender: u64, width: u32) -> Row
         sender,
         start,
     }
+}
+
+/// The number at a place of a row.
+pub fn value_of(taken: &NumberLists, row: Row, place: u32) -> i64
+    ensures { result ≡ value_in taken.now place row }
+{
+    number_behind(list_of(taken, row.sender), row.start, place)
 }

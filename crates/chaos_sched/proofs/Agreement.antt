@@ -142,7 +142,7 @@ in_order-sorted items = once (ascending item_cmp items) (ascending-sorted items)
 
 -- ---- a list in order stays as it is
 
-sorted_further : (xs : List Item) → IsStrictlySortedBy element_cmp xs → IsStrictlySortedBy item_cmp xs
+pub sorted_further : (xs : List Item) → IsStrictlySortedBy element_cmp xs → IsStrictlySortedBy item_cmp xs
 unfolding IsStrictlySortedBy
 sorted_further [] up = tt
 sorted_further (x ∷ xs) up = (
@@ -159,7 +159,7 @@ all_kept k (x ∷ xs) above up =
     ap (λ b. cond b (dedup_from same_element k xs) (k ∷ dedup_from same_element x xs)) (turned x k ∙ ap is_eq above.0)
     ∙ ap (λ l. k ∷ l) (all_kept x xs up.0 up.1)
 
-none_dropped : (xs : List Item) → IsStrictlySortedBy element_cmp xs → dedup same_element xs ≡ xs
+pub none_dropped : (xs : List Item) → IsStrictlySortedBy element_cmp xs → dedup same_element xs ≡ xs
 unfolding IsStrictlySortedBy
 none_dropped [] up = refl
 none_dropped (x ∷ xs) up = all_kept x xs up.0 up.1
@@ -182,7 +182,7 @@ sorted_owner (x ∷ xs) up = (above_owner x xs up.0, sorted_owner xs up.1)
 
 -- ---- the rows of an ask, as they are read
 
-abbrev IsNamedItem : Item → Type 0
+abbrev pub IsNamedItem : Item → Type 0
 IsNamedItem i = (i.array < 2 ^ 32) × (1 ≤ i.element)
 
 is_in_range : (array element : ℕ) → array < 2 ^ 32 → 1 ≤ element → (nat_lt array (2 ^ 32) && nat_lt 0 element) ≡ true
@@ -214,31 +214,36 @@ unfolding needed_from
 in_order-owner role q needs = in_order-same (map on_owner (needed_from role q needs)) (sorted_owner (needed_from role q needs)
     (in_order-sorted (needed_items role q needs)))
 
-reads_asked : (q : ℕ) (needs : List Need) → All IsNamed needs → asked_by 0 (ask_to q needs) ≡ map on_owner (needed_from Read q needs)
-unfolding asked_by ask_to
-reads_asked q needs named =
-    let reads = needed_from Read q needs in
-    let targets = needed_from Target q needs in
-    ap in_order (
-    own_rows 0 refl reads (flat_map (ask_row 1) targets) (named_items Read q needs named)
+-- what is read of rows for reads and for targets
+pub reads_told : (reads targets : List Item) → AllByRecursion IsNamedItem reads
+    → asked_by 0 (flat_map (ask_row 0) reads ++ flat_map (ask_row 1) targets) ≡ in_order (map on_owner reads)
+unfolding asked_by
+reads_told reads targets named = ap in_order (
+    own_rows 0 refl reads (flat_map (ask_row 1) targets) named
     ∙ ap (λ l. map on_owner reads ++ asked_items 0 l) (sym (append-nil (flat_map (ask_row 1) targets)))
     ∙ ap (λ l. map on_owner reads ++ l) (other_rows 0 1 refl targets [])
     ∙ append-nil (map on_owner reads)
     )
-    ∙ in_order-owner Read q needs
 
-targets_asked : (q : ℕ) (needs : List Need) → All IsNamed needs → asked_by 1 (ask_to q needs) ≡ map on_owner (needed_from Target q needs)
-unfolding asked_by ask_to
-targets_asked q needs named =
-    let reads = needed_from Read q needs in
-    let targets = needed_from Target q needs in
-    ap in_order (
+pub targets_told : (reads targets : List Item) → AllByRecursion IsNamedItem targets
+    → asked_by 1 (flat_map (ask_row 0) reads ++ flat_map (ask_row 1) targets) ≡ in_order (map on_owner targets)
+unfolding asked_by
+targets_told reads targets named = ap in_order (
     other_rows 1 0 refl reads (flat_map (ask_row 1) targets)
     ∙ ap (asked_items 1) (sym (append-nil (flat_map (ask_row 1) targets)))
-    ∙ own_rows 1 refl targets [] (named_items Target q needs named)
+    ∙ own_rows 1 refl targets [] named
     ∙ append-nil (map on_owner targets)
     )
-    ∙ in_order-owner Target q needs
+
+reads_asked : (q : ℕ) (needs : List Need) → All IsNamed needs → asked_by 0 (ask_to q needs) ≡ map on_owner (needed_from Read q needs)
+unfolding ask_to
+reads_asked q needs named =
+    reads_told (needed_from Read q needs) (needed_from Target q needs) (named_items Read q needs named) ∙ in_order-owner Read q needs
+
+targets_asked : (q : ℕ) (needs : List Need) → All IsNamed needs → asked_by 1 (ask_to q needs) ≡ map on_owner (needed_from Target q needs)
+unfolding ask_to
+targets_asked q needs named =
+    targets_told (needed_from Read q needs) (needed_from Target q needs) (named_items Target q needs named) ∙ in_order-owner Target q needs
 
 -- ---- lists by node
 
@@ -248,7 +253,7 @@ at_range f a zero (suc n) h = ap f (sym (add-zero a))
 at_range f a (suc k) (suc n) h = let less : k < n = omega arith in let more : a + 1 + k ≡ a + suc k = omega arith in
     at_range f (a + 1) k n less ∙ ap f more
 
-by_node : {B : Type 0} (f : ℕ → List B) (q n : ℕ) → q < n → list_at (map f (range_with_len 0 n)) q ≡ f q
+pub by_node : {B : Type 0} (f : ℕ → List B) (q n : ℕ) → q < n → list_at (map f (range_with_len 0 n)) q ≡ f q
 by_node f q n h = let e : 0 + q ≡ q = omega arith in at_range f 0 q n h ∙ ap f e
 
 pub sides_agree : SidesAgree

@@ -18,10 +18,13 @@ impl Prepared {
     pub fn copy(&self, alloc: Global) -> Result<Prepared, Memory>
         ensures { IfOk result (λ p. p ≡ self.now) }
     {
+        let iterations = self.iterations.copy(alloc)?;
+        let references = LocalRefs::from_slice(alloc, self.references.as_slice())?;
+        let schedule = self.schedule.copy(alloc)?;
         Ok(Prepared {
-            iterations: self.iterations.copy(alloc)?,
-            references: LocalRefs::from_slice(alloc, self.references.as_slice())?,
-            schedule: self.schedule.copy(alloc)?,
+            iterations,
+            references,
+            schedule,
         })
     }
 }

@@ -21,20 +21,6 @@ pub struct Schedule {
     pub scatter_take: ItemLists,
 }
 
-impl Schedule {
-    /// An equal schedule.
-    pub fn copy(&self, alloc: Global) -> Result<Schedule, Memory>
-        ensures { IfOk result (λ s. s ≡ self.now) }
-    {
-        Ok(Schedule {
-            gather_send: copy_lists(alloc, &self.gather_send)?,
-            gather_fetch: copy_lists(alloc, &self.gather_fetch)?,
-            scatter_send: copy_lists(alloc, &self.scatter_send)?,
-            scatter_take: copy_lists(alloc, &self.scatter_take)?,
-        })
-    }
-}
-
 /// The schedule from a node's own needs and the rows that each node asks of it, one list per node.
 pub fn from_asks(
     alloc: Global,
@@ -75,10 +61,10 @@ fn asked_lists(
 fn rows_of(asks: &NumberLists, node: u32) -> &[i64]
     ensures { result.now ≡ list_at asks.now node }
 {
-    match asks.get(u64::from(node)) {
-        Some(rows) => rows.as_slice(),
-        None => &[],
-    }
+    let Some(rows) = asks.get(u64::from(node)) else {
+        return &[];
+    };
+    rows.as_slice()
 }
 
 fn needed_lists(alloc: Global, needs: &Needs, role: Role, nodes: u32) -> Result<ItemLists, Memory>
@@ -91,6 +77,20 @@ fn needed_lists(alloc: Global, needs: &Needs, role: Role, nodes: u32) -> Result<
         lists.push(Items::from_vec(items))?;
     }
     Ok(lists)
+}
+
+impl Schedule {
+    /// An equal schedule.
+    pub fn copy(&self, alloc: Global) -> Result<Schedule, Memory>
+        ensures { IfOk result (λ s. s ≡ self.now) }
+    {
+        Ok(Schedule {
+            gather_send: copy_lists(alloc, &self.gather_send)?,
+            gather_fetch: copy_lists(alloc, &self.gather_fetch)?,
+            scatter_send: copy_lists(alloc, &self.scatter_send)?,
+            scatter_take: copy_lists(alloc, &self.scatter_take)?,
+        })
+    }
 }
 
 fn copy_lists(alloc: Global, lists: &ItemLists) -> Result<ItemLists, Memory>

@@ -1,16 +1,16 @@
 -- What a look at a page tells.
-use Rattle.std.proofs.Common.{◌≡◌, refl, ℕ, zero, suc, ◌+◌, ◌*◌, ◌-◌, ◌≤◌, ◌<◌, Bool, true, false, ◌==◌, cond, List, [], ◌∷◌, length, take}
-use Rattle.std.proofs.Common.{map, count_by, ap, sym, subst, ◌∙◌, arith, add-zero}
+use Rattle.std.proofs.Common.{◌≡◌, refl, ℕ, ◌+◌, ◌-◌, ◌≤◌, ◌<◌, Bool, true, false, ◌==◌, cond, List, length, take}
+use Rattle.std.proofs.Common.{count_by, ap, ◌∙◌, arith}
 use Rattle.std.proofs.Common.{inl, inr}
 use Rattle.std.specs.Prelude.{ℤ, Option, Some, None, ◌⊎◌, slice_get, unwrap_or, nat_le}
-use Rattle.std.specs.List.{range_with_len}
 use Rattle.std.proofs.lemmas.Bool.Decides.{nat_tests}
 use Rattle.std.proofs.lemmas.Option.{slice_get_past}
 use Rattle.std.proofs.lemmas.List.FromFn.{length-map-range_with_len}
 use Rattle.fd_words.specs.declared.place.Place.{Place}
-use Rattle.chaos_dist.specs.Owners.{owner_in, local_in}
+use Rattle.chaos_dist.specs.Owners.{owner_in}
 use Rattle.chaos_dist.specs.OwnersLaws.{get_range}
-use Rattle.chaos_table.specs.Pages.{first_on, size_on, all_pairs, owner_by, owners_on, earlier, place_on, places_of, page_given, look_in}
+use Rattle.chaos_table.specs.Laws.{LookTells, LookTellsNone}
+use Rattle.chaos_table.specs.Pages.{first_on, size_on, all_pairs, owner_by, owners_on, earlier, place_on, places_of, look_in}
 
 found_if : (b : Bool) (o : Option Place) (p : Place) → b ≡ true → o ≡ Some p → cond b o None ≡ Some p
 found_if true o p on is = is
@@ -51,14 +51,7 @@ placed_at before owners k o is =
     let at : ℕ → ℕ → Place = λ x j. record { owner = x; local = before x + count_by (λ y. y == x) (take j owners) } in
     ap (λ x. at x (1 + k - 1)) own ∙ ap (at o) back
 
-pub tells : (extent nodes page : ℕ) (pairs counts : List (List ℤ)) (g : ℕ) → first_on extent nodes page ≤ g
-    → g < first_on extent nodes page + size_on extent nodes page
-    → look_in (page_given extent nodes page pairs counts) g ≡ Some (record {
-      owner = owner_by nodes (all_pairs pairs) g;
-      local = earlier extent counts page (owner_by nodes (all_pairs pairs) g)
-          + count_by (λ o. o == owner_by nodes (all_pairs pairs) g)
-          (take (g - first_on extent nodes page) (owners_on extent nodes page pairs));
-    })
+pub tells : LookTells
 tells extent nodes page pairs counts g low high =
     let first = first_on extent nodes page in
     let owners = owners_on extent nodes page pairs in
@@ -70,9 +63,7 @@ tells extent nodes page pairs counts g low high =
     told (earlier extent counts page) owners first g low (omega (arith, long extent nodes page pairs))
     ∙ ap Some (placed_at (earlier extent counts page) owners (g - first) (owner_by nodes (all_pairs pairs) g) own)
 
-pub tells_none : (extent nodes page : ℕ) (pairs counts : List (List ℤ)) (g : ℕ) → (g < first_on extent nodes page)
-    ⊎ (first_on extent nodes page + size_on extent nodes page ≤ g)
-    → look_in (page_given extent nodes page pairs counts) g ≡ None
+pub tells_none : LookTellsNone
 tells_none extent nodes page pairs counts g (inl under) = told_none (earlier extent counts page) (owners_on extent nodes page pairs)
     (first_on extent nodes page) g (inl under)
 tells_none extent nodes page pairs counts g (inr over) =

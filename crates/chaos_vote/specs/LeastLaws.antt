@@ -25,6 +25,10 @@ not_less_back a b e = grind (arith, ints, nat_tests)
 
 -- ---- the lesser of three votes
 
+lesser_none : (v : Option Offence) → lesser v None ≡ v
+lesser_none None = refl
+lesser_none (Some a) = refl
+
 chosen : (a b : Offence) (t : Bool) → is_less b a ≡ t → lesser (Some a) (Some b) ≡ cond t (Some b) (Some a)
 chosen a b t e = ap (λ r. cond r (Some b) (Some a)) e
 
@@ -41,10 +45,6 @@ of_three a b c false true e f =
 of_three a b c false false e f =
     ap (λ v. lesser v (Some c)) (chosen a b false e) ∙ chosen a c false (not_less_trans c b a f e)
     ∙ sym (ap (lesser (Some a)) (chosen b c false f) ∙ chosen a b false e)
-
-lesser_none : (v : Option Offence) → lesser v None ≡ v
-lesser_none None = refl
-lesser_none (Some a) = refl
 
 lesser_assoc : (u v w : Option Offence) → lesser (lesser u v) w ≡ lesser u (lesser v w)
 lesser_assoc None v w = refl

@@ -20,6 +20,7 @@ use Rattle.fd_syntax.specs.declared.expr.Subscript.TheVariants.{Plain, Through, 
 use Rattle.fd_syntax.specs.declared.statement.BodyStatement.{BodyStatement}
 use Rattle.fd_syntax.specs.declared.statement.BodyStatement.TheVariants as statement
 use Rattle.fd_syntax.specs.declared.statement.Loop.{Loop}
+use Rattle.fd_program.specs.AmongLaws.{zip_weaker}
 use Rattle.fd_program.specs.Checks.{IsPlain, IsStatement, HasRole, IsExpr}
 use Rattle.fd_program.specs.Loops.{target_of, operator_of, expr_of}
 use Rattle.fd_program.specs.Places.{decomposition_of}
@@ -41,7 +42,7 @@ use Rattle.fd_loops.specs.Drafts.{is_crowded, with_reference, is_worn, stamp_in,
 use Rattle.fd_loops.specs.Drafts.{is_other, is_reduced_otherwise, clash_faults, after_target}
 use Rattle.fd_loops.specs.Elements.{index_reference, after_index, after_own_stamp, own_reference, after_own, after_element, element_number}
 use Rattle.fd_loops.specs.Elements.{element_faults}
-use Rattle.fd_resolve.specs.Resolve.{array_of, named, subscript_resolved, subscript_marks}
+use Rattle.fd_resolve.specs.Resolve.{array_called, named, subscript_resolved, subscript_marks}
 use Rattle.fd_checks.specs.Walks.{site_of}
 use Rattle.fd_checks.proofs.Accepted.{left_empty, right_empty, test_false, not_false, true_not_false, is_some-some, slice_get-front}
 use Rattle.fd_checks.proofs.Accepted.{slice_get-last, slice_get-push, some_and, some_and-is}
@@ -93,14 +94,14 @@ module _ (h : Head) (a : Around) where
   own_grows : (role : Role) (d : Draft) (e : Element) → Grows d (after_own h a role d e)
   own_grows role d e = by_test (is_crowded d)
     where
-      by_test : (b : Bool) → Grows d (if b then d else with_reference (after_own_stamp h a d e.subscript (array_of h a e.name))
+      by_test : (b : Bool) → Grows d (if b then d else with_reference (after_own_stamp h a d e.subscript (array_called h a e.name))
           (own_reference h a d role e))
       by_test true = stays d d refl refl
       by_test false =
-          let x = after_own_stamp h a d e.subscript (array_of h a e.name) in
+          let x = after_own_stamp h a d e.subscript (array_called h a e.name) in
           grows_more d x (with_reference x (own_reference h a d role e))
-          (stays d x (after_own_stamp-references h a d e.subscript (array_of h a e.name)) (after_own_stamp-terms h a d e.subscript
-          (array_of h a e.name)))
+          (stays d x (after_own_stamp-references h a d e.subscript (array_called h a e.name)) (after_own_stamp-terms h a d e.subscript
+          (array_called h a e.name)))
           (with_grows x (own_reference h a d role e))
 
   pub element_grows : (role : Role) (d : Draft) (e : Element) → Grows d (after_element h a role d e)
@@ -240,7 +241,7 @@ pub record IsTarget (h : Head) (a : Around) (references : List Reference) (t : T
   pub reference : Reference
   pub number : target_of s ≡ suc place
   pub there : slice_get references place ≡ Some reference
-  pub array : array_of h a t.name ≡ Some reference.array
+  pub array : array_called h a t.name ≡ Some reference.array
   pub operator : operator_of s ≡ t.operator
 
 target_later : (h : Head) (a : Around) (d e : Draft) → Grows d e → (t : Target) (s : CheckedBody) → IsTarget h a d.references t s
@@ -260,13 +261,6 @@ zip_push R [] [] x y z r = (r, tt)
 zip_push R [] (w ∷ ws) x y z r = absurd z
 zip_push R (v ∷ vs) [] x y z r = absurd z
 zip_push R (v ∷ vs) (w ∷ ws) x y z r = (z.0, zip_push R vs ws x y z.1 r)
-
-pub zip_weaker : {A B : Type 0} (R S : A → B → Type 0) → ((x : A) (y : B) → R x y → S x y) → (xs : List A) (ys : List B) → AllZip R xs ys
-    → AllZip S xs ys
-zip_weaker R S f [] [] z = tt
-zip_weaker R S f [] (y ∷ ys) z = z
-zip_weaker R S f (x ∷ xs) [] z = z
-zip_weaker R S f (x ∷ xs) (y ∷ ys) z = (f x y z.0, zip_weaker R S f xs ys z.1)
 
 -- two targets with one name are reduced with one operator
 abbrev pub Alike : Target → Target → Type 0
@@ -451,9 +445,9 @@ module _ {X : Type 0} (f : Draft → X) (references : (d : Draft) (rs : List Ref
 
     own_same : (role : Role) (d : Draft) (e : Element) → f (after_own h a role d e) ≡ f d
     own_same role d e =
-        let x = after_own_stamp h a d e.subscript (array_of h a e.name) in
+        let x = after_own_stamp h a d e.subscript (array_called h a e.name) in
         one_same (is_crowded d) d d (with_reference x (own_reference h a d role e)) refl (with_same x (own_reference h a d role e)
-        ∙ stamp_same d e.subscript (array_of h a e.name))
+        ∙ stamp_same d e.subscript (array_called h a e.name))
 
     element_same : (role : Role) (d : Draft) (e : Element) → f (after_element h a role d e) ≡ f d
     element_same role d e = own_same role (after_index h a d e.subscript) e ∙ index_same d e.subscript
@@ -487,7 +481,7 @@ pub record IsSound (h : Head) (a : Around) (loop : Loop) (start : List ℕ) (d :
   pub alike : AllPairs Alike d.targets
   pub written : AreTargets d.references d.body
 
-module _ (h : Head) (a : Around) (loop : Loop) (start : List ℕ) (known : (name : List ℕ) (k : ℕ) → array_of h a name ≡ Some k
+module _ (h : Head) (a : Around) (loop : Loop) (start : List ℕ) (known : (name : List ℕ) (k : ℕ) → array_called h a name ≡ Some k
     → k < length h.tables.arrays)
     (placed : (k : ℕ) → k < length h.tables.arrays → decomposition_of h.tables.arrays k < length start) where
   expr_referred : (e : Expr) (d : Draft) → expr_faults h a loop.index d e ≡ [] → AreReferred h.tables.arrays start d
@@ -620,9 +614,9 @@ module _ (h : Head) (a : Around) (loop : Loop) (start : List ℕ) (known : (name
     }
 
     target_made : IsTarget h a valued.references one made
-    target_made = from (is_some-some (array_of h a target.name) (own_known h a aimed target no_element))
+    target_made = from (is_some-some (array_called h a target.name) (own_known h a aimed target no_element))
       where
-        from : (k : ℕ) × (array_of h a target.name ≡ Some k) → IsTarget h a valued.references one made
+        from : (k : ℕ) × (array_called h a target.name ≡ Some k) → IsTarget h a valued.references one made
         from (k, is) = record {
           place = place;
           reference = own;

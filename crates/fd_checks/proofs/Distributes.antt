@@ -19,11 +19,11 @@ use Rattle.fd_scope.specs.declared.names.Meaning.TheVariants.{Constant, Array, D
 use Rattle.fd_scope.specs.declared.scope.ArrayEntry.{ArrayEntry}
 use Rattle.fd_scope.specs.Faults.{fault_if}
 use Rattle.fd_scope.specs.Names.{found, is_earlier, declared_before, known, as_array}
-use Rattle.fd_scope.specs.Scalars.{value_of, scalar_faults}
+use Rattle.fd_scope.specs.Scalars.{scalar_within, scalar_faults}
 use Rattle.fd_scope.specs.Scope.{bad_extent}
 use Rattle.fd_scope.specs.Scope as scopes
 use Rattle.fd_resolve.specs.declared.around.Around.{Around}
-use Rattle.fd_resolve.specs.Resolve.{array_of, array_or_first, array_unknown}
+use Rattle.fd_resolve.specs.Resolve.{array_called, array_or_first, array_unknown}
 use Rattle.fd_checks.specs.Walks.{own_decomposition, meant_decomposition, array_extent, meant_extent, is_other_extent, map_faults, size_of}
 use Rattle.fd_checks.specs.Walks.{form_faults, form_resolved, distribute_faults}
 use Rattle.fd_checks.proofs.Accepted.{left_empty, right_empty, test_false, not_false, is_some-some}
@@ -77,7 +77,7 @@ module _ (h : Head) (g : IsSoundHead h) where
       same : n ≡ d
       same = cc
 
-      from : (w : ℕ) × (scopes.layout_extent h.scope.layouts (Some n) ≡ Some w)
+      from : (w : ℕ) × (scopes.entry_extent_of h.scope.layouts (Some n) ≡ Some w)
           → IsMeant h (Some (record { at = at; meaning = Decomposition n })) d
       from (w, whole) =
           let has = g.tables.front n w whole in
@@ -145,24 +145,25 @@ module _ (h : Head) (g : IsSoundHead h) where
       → map_faults h a name map_name at ≡ []
       → (array_or_first h a map_name < length h.tables.arrays)
       × ((array_at h.tables.arrays (array_or_first h a map_name)).extent ≡ layout_extent h.tables.layouts d)
-  map_sound a name map_name at d is none = from (is_some-some (array_of h a map_name) some)
+  map_sound a name map_name at d is none = from (is_some-some (array_called h a map_name) some)
     where
-      some : is_some (array_of h a map_name) ≡ true
-      some = not_false (is_some (array_of h a map_name)) (test_false (not (is_some (array_of h a map_name))) at (cause.Unknown map_name)
+      some : is_some (array_called h a map_name) ≡ true
+      some = not_false (is_some (array_called h a map_name))
+          (test_false (not (is_some (array_called h a map_name))) at (cause.Unknown map_name)
           (left_empty (array_unknown h a map_name at) _ none))
 
       second : (b c : Bool) → b ≡ true → (b && c) ≡ false → c ≡ false
       second true c f f' = f'
       second false c f f' = cc
 
-      from : (k : ℕ) × (array_of h a map_name ≡ Some k)
+      from : (k : ℕ) × (array_called h a map_name ≡ Some k)
           → (array_or_first h a map_name < length h.tables.arrays)
           × ((array_at h.tables.arrays (array_or_first h a map_name)).extent ≡ layout_extent h.tables.layouts d)
       from (k, same) =
           let first : k ≡ array_or_first h a map_name = sym (ap (λ (o : Option ℕ). unwrap_or o 0) same) in
-          let other = second (is_some (array_of h a map_name)) (is_other_extent (meant_extent h (known h.scope.names a.here map_name))
+          let other = second (is_some (array_called h a map_name)) (is_other_extent (meant_extent h (known h.scope.names a.here map_name))
           (meant_extent h (known h.scope.names a.here name))) some
-          (test_false (is_some (array_of h a map_name) && is_other_extent (meant_extent h (known h.scope.names a.here map_name))
+          (test_false (is_some (array_called h a map_name) && is_other_extent (meant_extent h (known h.scope.names a.here map_name))
           (meant_extent h (known h.scope.names a.here name))) at cause.MapLength
           (right_empty (array_unknown h a map_name at) _ none)) in
           let equal : (array_at h.tables.arrays k).extent ≡ is.extent = one_extent (array_at h.tables.arrays k).extent is.extent
@@ -185,10 +186,10 @@ module _ (h : Head) (g : IsSoundHead h) where
   form_sound a name form.Cyclic d is none = one_is
   form_sound a name (form.BlockCyclic size at) d is none =
       size_there (size_of h a size)
-      (extent_valued at (value_of h.scope.names a.here size)
+      (extent_valued at (scalar_within h.scope.names a.here size)
       (scalar_valued h.scope.names a.here h.loops (constant_in h.scope.arrays h.scope.layouts h.scope.names a.here g.scope.names) size
-      (left_empty (scalar_faults h.scope.names a.here h.loops size) (bad_extent at (value_of h.scope.names a.here size)) none))
-      (right_empty (scalar_faults h.scope.names a.here h.loops size) (bad_extent at (value_of h.scope.names a.here size)) none))
+      (left_empty (scalar_faults h.scope.names a.here h.loops size) (bad_extent at (scalar_within h.scope.names a.here size)) none))
+      (right_empty (scalar_faults h.scope.names a.here h.loops size) (bad_extent at (scalar_within h.scope.names a.here size)) none))
   form_sound a name (form.Map map_name map_at) d is none = map_sound a name map_name map_at d is none
 
   pub distribute_sound : (a : Around) (name : List ℕ) (name_at : SourcePlace) (f : Form) → distribute_faults h a name name_at f ≡ []

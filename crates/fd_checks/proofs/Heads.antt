@@ -16,8 +16,9 @@ use Rattle.fd_program.specs.Checks.{IsExtent}
 use Rattle.fd_words.specs.Operators.{exactly, sign_of}
 use Rattle.fd_scope.specs.declared.names.Known.{Known}
 use Rattle.fd_scope.specs.Names.{found, known, as_constant, name_eq}
-use Rattle.fd_scope.specs.Scalars.{most, is_large, sized, within, both, constant_value, value_of, large_faults, name_faults, scalar_faults}
-use Rattle.fd_scope.specs.Scalars.{offset_value, offset_faults, term_faults}
+use Rattle.fd_scope.specs.Scalars.{most, is_large, sized, within, both, constant_value, scalar_within, large_faults, name_faults}
+use Rattle.fd_scope.specs.Scalars.{scalar_faults}
+use Rattle.fd_scope.specs.Scalars.{offset_within, offset_faults, term_faults}
 use Rattle.fd_scope.specs.Scope.{is_extent, extent_within, bad_extent}
 use Rattle.fd_checks.proofs.Accepted.{left_empty, right_empty, test_false, not_false}
 
@@ -114,29 +115,30 @@ named_valued loops (Some value) name at v e = v
 
 module _ (names : List (List ℕ × Known)) (here : SourcePlace) (loops : List (List ℕ)) (constants : (q : List ℕ)
     → IsConstant (as_constant (known names here q))) where
-  pub scalar_valued : (s : Scalar) → scalar_faults names here loops s ≡ [] → IsValued (value_of names here s)
+  pub scalar_valued : (s : Scalar) → scalar_faults names here loops s ≡ [] → IsValued (scalar_within names here s)
   scalar_valued (Number value at) e = sized_valued value (large_known at value e)
   scalar_valued (Named name at) e = named_valued loops (as_constant (known names here name)) name at (constants name) e
-  scalar_valued (Negate' at s (more_of-Scalar inner end_of-Scalar)) e = negated_valued (value_of names here inner) (scalar_valued inner e)
+  scalar_valued (Negate' at s (more_of-Scalar inner end_of-Scalar))
+      e = negated_valued (scalar_within names here inner) (scalar_valued inner e)
   scalar_valued (Binary' op at s (more_of-Scalar left end_of-Scalar) t (more_of-Scalar right end_of-Scalar)) e =
       let rest = right_empty (scalar_faults names here loops left) (scalar_faults names here loops right ++ large_faults at
-      (both op (value_of names here left) (value_of names here right))) e in
-      both_valued op at (value_of names here left) (value_of names here right)
+      (both op (scalar_within names here left) (scalar_within names here right))) e in
+      both_valued op at (scalar_within names here left) (scalar_within names here right)
       (scalar_valued left (left_empty (scalar_faults names here loops left) (scalar_faults names here loops right ++ large_faults at
-      (both op (value_of names here left) (value_of names here right))) e))
+      (both op (scalar_within names here left) (scalar_within names here right))) e))
       (scalar_valued right (left_empty (scalar_faults names here loops right)
-      (large_faults at (both op (value_of names here left) (value_of names here right))) rest))
+      (large_faults at (both op (scalar_within names here left) (scalar_within names here right))) rest))
       (right_empty (scalar_faults names here loops right)
-      (large_faults at (both op (value_of names here left) (value_of names here right))) rest)
+      (large_faults at (both op (scalar_within names here left) (scalar_within names here right))) rest)
 
   pub offset_valued : (total : Option ℤ) (terms : List Term) → IsValued total → offset_faults names here loops total terms ≡ []
-      → IsValued (offset_value names here total terms)
+      → IsValued (offset_within names here total terms)
   offset_valued total [] v e = v
   offset_valued total (t ∷ ts) v e =
-      let sum = both (sign_of t.minus) total (value_of names here t.scalar) in
+      let sum = both (sign_of t.minus) total (scalar_within names here t.scalar) in
       let first = left_empty (term_faults names here loops total t) (offset_faults names here loops (within sum) ts) e in
       offset_valued (within sum) ts
-      (both_valued (sign_of t.minus) t.at total (value_of names here t.scalar) v
+      (both_valued (sign_of t.minus) t.at total (scalar_within names here t.scalar) v
       (scalar_valued t.scalar (left_empty (scalar_faults names here loops t.scalar) (large_faults t.at sum) first))
       (right_empty (scalar_faults names here loops t.scalar) (large_faults t.at sum) first))
       (right_empty (term_faults names here loops total t) (offset_faults names here loops (within sum) ts) e)

@@ -27,7 +27,7 @@ use Rattle.fd_loops.specs.Drafts.{is_crowded, with_reference, is_stamped, stamp_
 use Rattle.fd_loops.specs.Drafts.{after_stamp, stamp_faults}
 use Rattle.fd_loops.specs.Elements.{index_reference, after_index, index_faults, is_index_crowded, after_own_stamp, own_stamp}
 use Rattle.fd_loops.specs.Elements.{own_stamp_faults, own_reference, after_own, own_faults, after_element, element_number, element_faults}
-use Rattle.fd_resolve.specs.Resolve.{array_of, array_or_first, array_unknown, subscript_unknowns, subscript_marks, offset_unknowns}
+use Rattle.fd_resolve.specs.Resolve.{array_called, array_or_first, array_unknown, subscript_unknowns, subscript_marks, offset_unknowns}
 use Rattle.fd_checks.proofs.Accepted.{left_empty, right_empty, test_false, not_false, is_some-some}
 use Rattle.fd_checks.proofs.Shapes.{after_own_stamp-references}
 
@@ -57,18 +57,19 @@ module _ (h : Head) (a : Around) (d : Draft) (e : Element) where
   own_room none =
       and_not (is_crowded (after_index h a d e.subscript)) (is_index_crowded d e.subscript)
       (test_false (is_crowded (after_index h a d e.subscript) && not (is_index_crowded d e.subscript)) e.at _
-      (left_empty _ (own_stamp_faults h a (after_index h a d e.subscript) e (array_of h a e.name)) (own_rest none)))
+      (left_empty _ (own_stamp_faults h a (after_index h a d e.subscript) e (array_called h a e.name)) (own_rest none)))
       (index_room d e.subscript
       (left_empty (index_faults d e.subscript) _
       (right_empty (subscript_unknowns h a e.subscript) _ (right_empty (array_unknown h a e.name e.at) _ none))))
 
-  pub own_known : element_faults h a d e ≡ [] → is_some (array_of h a e.name) ≡ true
-  own_known none = not_false _ (test_false (not (is_some (array_of h a e.name))) e.at _ (left_empty (array_unknown h a e.name e.at) _ none))
+  pub own_known : element_faults h a d e ≡ [] → is_some (array_called h a e.name) ≡ true
+  own_known none = not_false _ (test_false
+      (not (is_some (array_called h a e.name))) e.at _ (left_empty (array_unknown h a e.name e.at) _ none))
 
   pub names_known : element_faults h a d e ≡ [] → subscript_unknowns h a e.subscript ≡ []
   names_known none = left_empty (subscript_unknowns h a e.subscript) _ (right_empty (array_unknown h a e.name e.at) _ none)
 
-  pub stamp_known : element_faults h a d e ≡ [] → own_stamp_faults h a (after_index h a d e.subscript) e (array_of h a e.name) ≡ []
+  pub stamp_known : element_faults h a d e ≡ [] → own_stamp_faults h a (after_index h a d e.subscript) e (array_called h a e.name) ≡ []
   stamp_known none = right_empty (fault_if (is_crowded (after_index h a d e.subscript) && not (is_index_crowded d e.subscript)) e.at
       cause.TooManyReferences) _ (own_rest none)
 
@@ -87,12 +88,12 @@ module _ (h : Head) (a : Around) where
       ++ own_reference h a d role e ∷ []
   own_added role d e room = by_test (is_crowded d) room
     where
-      by_test : (b : Bool) → b ≡ false → (if b then d else with_reference (after_own_stamp h a d e.subscript (array_of h a e.name))
+      by_test : (b : Bool) → b ≡ false → (if b then d else with_reference (after_own_stamp h a d e.subscript (array_called h a e.name))
           (own_reference h a d role e)).references ≡ d.references ++ own_reference h a d role e ∷ []
       by_test true f = cc
       by_test false f =
-          let same = after_own_stamp-references h a d e.subscript (array_of h a e.name) in
-          reference_added (after_own_stamp h a d e.subscript (array_of h a e.name)) (own_reference h a d role e)
+          let same = after_own_stamp-references h a d e.subscript (array_called h a e.name) in
+          reference_added (after_own_stamp h a d e.subscript (array_called h a e.name)) (own_reference h a d role e)
           (ap (λ (rs : List Reference). nat_le 64 (length rs)) same ∙ room)
           ∙ ap (λ (rs : List Reference). rs ++ own_reference h a d role e ∷ []) same
 
@@ -165,6 +166,18 @@ same_first a b p q e = grind (arith, nat_tests)
 below_worn : (n : ℕ) → nat_le 128 n ≡ false → n < 128
 below_worn n e = grind (arith, nat_tests)
 
+-- a new stamp
+abbrev with_next : Draft → ℕ → ℤ → List Mark → Draft
+with_next d decomposition offset marks = record d {
+  stamped = d.stamped ++ record {
+    decomposition = decomposition;
+    offset = offset;
+    marks = marks;
+    stamp = used_at d.used decomposition;
+  } ∷ [];
+  used = slice_set d.used decomposition (used_at d.used decomposition + 1);
+}
+
 pub record HasStamp (start : List ℕ) (d e : Draft) (decomposition stamp : ℕ) : Type 0 where
   pub most : stamp < 128
   pub new : IsNew start e.used decomposition stamp
@@ -191,15 +204,7 @@ stamp_again start d decomposition offset marks x used all e =
 stamp_new : (start : List ℕ) (d : Draft) (decomposition : ℕ) (offset : ℤ) (marks : List Mark) → length d.used ≡ length start
     → ((k : ℕ) → used_at start k ≤ used_at d.used k)
     → decomposition < length start → All (IsStampOf start d.used) d.stamped → is_worn d.used decomposition ≡ false
-    → HasStamp start d (record d {
-      stamped = d.stamped ++ record {
-        decomposition = decomposition;
-        offset = offset;
-        marks = marks;
-        stamp = used_at d.used decomposition;
-      } ∷ [];
-      used = slice_set d.used decomposition (used_at d.used decomposition + 1);
-    }) decomposition (used_at d.used decomposition)
+    → HasStamp start d (with_next d decomposition offset marks) decomposition (used_at d.used decomposition)
 stamp_new start d decomposition offset marks used more within all worn =
     let next = slice_set d.used decomposition (used_at d.used decomposition + 1) in
     let there : used_at next decomposition ≡ used_at d.used decomposition + 1 = grown_there d.used decomposition
@@ -234,15 +239,8 @@ after_stamp-has start d decomposition offset marks at used more within all none 
     (test_false (not (is_some (stamp_in d.stamped decomposition offset marks)) && is_worn d.used decomposition) at cause.TooManyStamps none)
   where
     by_worn : (b : Bool) → is_worn d.used decomposition ≡ b → b ≡ false
-        → HasStamp start d (if b then d else record d {
-          stamped = d.stamped ++ record {
-            decomposition = decomposition;
-            offset = offset;
-            marks = marks;
-            stamp = used_at d.used decomposition;
-          } ∷ [];
-          used = slice_set d.used decomposition (used_at d.used decomposition + 1);
-        }) decomposition (if b then 0 else used_at d.used decomposition)
+        → HasStamp start d (if b then d else with_next d decomposition offset marks) decomposition
+        (if b then 0 else used_at d.used decomposition)
     by_worn true e f = cc
     by_worn false e f = stamp_new start d decomposition offset marks used more within all e
 
@@ -256,13 +254,13 @@ after_stamp-has start d decomposition offset marks at used more within all none 
 
 -- ---- an element
 
-module _ (h : Head) (a : Around) (start : List ℕ) (known : (name : List ℕ) (k : ℕ) → array_of h a name ≡ Some k
+module _ (h : Head) (a : Around) (start : List ℕ) (known : (name : List ℕ) (k : ℕ) → array_called h a name ≡ Some k
     → k < length h.tables.arrays)
     (placed : (k : ℕ) → k < length h.tables.arrays → decomposition_of h.tables.arrays k < length start) where
-  first_known : (name : List ℕ) → is_some (array_of h a name) ≡ true → array_or_first h a name < length h.tables.arrays
-  first_known name e = from (is_some-some (array_of h a name) e)
+  first_known : (name : List ℕ) → is_some (array_called h a name) ≡ true → array_or_first h a name < length h.tables.arrays
+  first_known name e = from (is_some-some (array_called h a name) e)
     where
-      from : (k : ℕ) × (array_of h a name ≡ Some k) → array_or_first h a name < length h.tables.arrays
+      from : (k : ℕ) × (array_called h a name ≡ Some k) → array_or_first h a name < length h.tables.arrays
       from (k, is) = subst (λ (o : Option ℕ). unwrap_or o 0 < length h.tables.arrays) (sym is) (known name k is)
 
   index_referred : (d : Draft) (s : Subscript) → subscript_unknowns h a s ≡ [] → AreReferred h.tables.arrays start d
@@ -275,7 +273,7 @@ module _ (h : Head) (a : Around) (start : List ℕ) (known : (name : List ℕ) (
       one = record {
         reference = record {
           array = first_known index_array
-              (not_false _ (test_false (not (is_some (array_of h a index_array))) at (cause.Unknown index_array)
+              (not_false _ (test_false (not (is_some (array_called h a index_array))) at (cause.Unknown index_array)
               (left_empty (array_unknown h a index_array at) (offset_unknowns h a inner_add ++ offset_unknowns h a add) none)));
           stamp = omega arith;
           index = λ is. tt;
@@ -307,23 +305,23 @@ module _ (h : Head) (a : Around) (start : List ℕ) (known : (name : List ℕ) (
       (placed j (subst (λ n. n < length h.tables.arrays) (sym same) within)) g.stamped none)
 
   own_is : (role : Role) (d : Draft) (e : Element) → is_crowded d ≡ false
-      → after_own h a role d e ≡ record (after_own_stamp h a d e.subscript (array_of h a e.name))
-      { references = (after_own_stamp h a d e.subscript (array_of h a e.name)).references ++ own_reference h a d role e ∷ [] }
+      → after_own h a role d e ≡ record (after_own_stamp h a d e.subscript (array_called h a e.name))
+      { references = (after_own_stamp h a d e.subscript (array_called h a e.name)).references ++ own_reference h a d role e ∷ [] }
   own_is role d e room =
-      let x = after_own_stamp h a d e.subscript (array_of h a e.name) in
+      let x = after_own_stamp h a d e.subscript (array_called h a e.name) in
       ap (λ b. if b then d else with_reference x (own_reference h a d role e)) room
       ∙ ap (λ b. if b then x else record x { references = x.references ++ own_reference h a d role e ∷ [] })
-      (ap (λ (rs : List Reference). nat_le 64 (length rs)) (after_own_stamp-references h a d e.subscript (array_of h a e.name)) ∙ room)
+      (ap (λ (rs : List Reference). nat_le 64 (length rs)) (after_own_stamp-references h a d e.subscript (array_called h a e.name)) ∙ room)
 
-  own_referred : (role : Role) → role ≢ Index → (d : Draft) (e : Element) → is_crowded d ≡ false → is_some (array_of h a e.name) ≡ true
-      → own_stamp_faults h a d e (array_of h a e.name) ≡ [] → AreReferred h.tables.arrays start d
+  own_referred : (role : Role) → role ≢ Index → (d : Draft) (e : Element) → is_crowded d ≡ false → is_some (array_called h a e.name) ≡ true
+      → own_stamp_faults h a d e (array_called h a e.name) ≡ [] → AreReferred h.tables.arrays start d
       → AreReferred h.tables.arrays start (after_own h a role d e)
-  own_referred role other d e room is none g = from (is_some-some (array_of h a e.name) is)
+  own_referred role other d e room is none g = from (is_some-some (array_called h a e.name) is)
     where
-      from : (k : ℕ) × (array_of h a e.name ≡ Some k) → AreReferred h.tables.arrays start (after_own h a role d e)
+      from : (k : ℕ) × (array_called h a e.name ≡ Some k) → AreReferred h.tables.arrays start (after_own h a role d e)
       from (k, is_k) =
-          let x = after_own_stamp h a d e.subscript (array_of h a e.name) in
-          let has = own_has d e (array_of h a e.name) k is_k (known e.name k is_k) none g in
+          let x = after_own_stamp h a d e.subscript (array_called h a e.name) in
+          let has = own_has d e (array_called h a e.name) k is_k (known e.name k is_k) none g in
           let first : k ≡ array_or_first h a e.name = sym (ap (λ (o : Option ℕ). unwrap_or o 0) is_k) in
           let one : IsReferred h.tables.arrays start x.used (own_reference h a d role e) = record {
             reference = record {
@@ -332,7 +330,7 @@ module _ (h : Head) (a : Around) (start : List ℕ) (known : (name : List ℕ) (
               index = λ same. absurd (other same);
             };
             new = λ same. subst (λ n. IsNew start x.used (decomposition_of h.tables.arrays n)
-                (own_stamp h a d e.subscript (array_of h a e.name))) first has.new;
+                (own_stamp h a d e.subscript (array_called h a e.name))) first has.new;
           } in
           let later : All (IsReferred h.tables.arrays start x.used) d.references =
           All-weaker (IsReferred h.tables.arrays start d.used) (IsReferred h.tables.arrays start x.used)

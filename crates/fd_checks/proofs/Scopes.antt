@@ -29,11 +29,11 @@ use Rattle.fd_scope.specs.declared.scope.LayoutEntry.{LayoutEntry}
 use Rattle.fd_scope.specs.declared.scope.Scope.{Scope}
 use Rattle.fd_scope.specs.Faults.{fault_if, along}
 use Rattle.fd_scope.specs.Names.{found, is_earlier, declared_before, known, as_constant, as_array, as_decomposition}
-use Rattle.fd_scope.specs.Scalars.{value_of, scalar_faults, offset_value, offset_faults}
+use Rattle.fd_scope.specs.Scalars.{scalar_within, scalar_faults, offset_within, offset_faults}
 use Rattle.fd_scope.specs.Scope.{nothing, is_declared, twice_faults, bad_extent, extent_of, extent_faults, is_full, parameter_entered}
 use Rattle.fd_scope.specs.Scope.{array_entered, layout_entered, after_parameter, parameter_faults, sized_faults, after_array, array_faults}
-use Rattle.fd_scope.specs.Scope.{after_layout, layout_faults, array_numbered, entry_extent, layout_extent, is_outside, aligned_faults}
-use Rattle.fd_scope.specs.Scope.{listed_faults, entry_aligned, arrays_aligned, after_aligned, alignment_of, target_faults, is_read}
+use Rattle.fd_scope.specs.Scope.{after_layout, layout_faults, array_numbered, entry_extent, entry_extent_of, is_outside, aligned_faults}
+use Rattle.fd_scope.specs.Scope.{listed_faults, entry_aligned, arrays_aligned, after_aligned, alignment_of, target_faults, is_array_read}
 use Rattle.fd_scope.specs.Scope.{is_output, again_faults, number_of, read_faults, output_faults, reads_with, outputs_with, after_read}
 use Rattle.fd_scope.specs.Scope.{after_output, after_declaration, declaration_faults, declared, declared_faults}
 use Rattle.fd_checks.proofs.Accepted.{left_empty, right_empty, test_false, not_false, left_false, right_false, true_not_false, is_some-some}
@@ -56,7 +56,7 @@ pub record IsStanding (layouts : List LayoutEntry) (extent : Option ℕ) (to : A
   pub decomposition_is : to.decomposition ≡ Some decomposition
   pub offset_is : to.offset ≡ Some offset
   pub size_is : extent ≡ Some size
-  pub whole_is : layout_extent layouts (Some decomposition) ≡ Some whole
+  pub whole_is : entry_extent_of layouts (Some decomposition) ≡ Some whole
   pub first : pos 0 ≤ℤ offset
   pub last : (pos size +ℤ offset) ≤ℤ pos whole
 
@@ -156,11 +156,11 @@ meaning_more_layouts arrays layouts more q (Constant value) is = is
 meaning_more_layouts arrays layouts more q (Array number) is = is
 meaning_more_layouts arrays layouts more q (Decomposition number) is = omega (arith, length-append layouts more)
 
-entry_kept : (layouts more : List LayoutEntry) (d w : ℕ) → layout_extent layouts (Some d) ≡ Some w
-    → layout_extent (layouts ++ more) (Some d) ≡ Some w
+entry_kept : (layouts more : List LayoutEntry) (d w : ℕ) → entry_extent_of layouts (Some d) ≡ Some w
+    → entry_extent_of (layouts ++ more) (Some d) ≡ Some w
 entry_kept layouts more d w e = by_get (slice_get layouts d) refl e
   where
-    by_get : (o : Option LayoutEntry) → slice_get layouts d ≡ o → entry_extent o ≡ Some w → layout_extent (layouts ++ more) (Some d)
+    by_get : (o : Option LayoutEntry) → slice_get layouts d ≡ o → entry_extent o ≡ Some w → entry_extent_of (layouts ++ more) (Some d)
         ≡ Some w
     by_get None is f = cc
     by_get (Some x) is f = ap entry_extent (slice_get-front layouts more d x is) ∙ f
@@ -194,19 +194,21 @@ one_more xs x e = let n : (length xs + 1) ≤ 64 = not_full (length xs) e in ome
 no_shorter : {A : Type 0} (xs : List A) (x : A) → length xs ≤ length (xs ++ x ∷ [])
 no_shorter xs x = omega (arith, length-append xs (x ∷ []))
 
+-- a scope that stays, or becomes another where a test fails
+kept_unless : (b : Bool) (s t : Scope) → IsSoundScope s → (b ≡ false → IsSoundScope t) → IsSoundScope (if b then s else t)
+kept_unless true s t g more = g
+kept_unless false s t g more = more refl
+
 -- ---- PARAMETER
 
 parameter_kept : (loops : List (List ℕ)) (s : Scope) (p : Parameter) → IsSoundScope s → Unit {0} → parameter_faults loops s p ≡ []
     → IsSoundScope (after_parameter s p)
-parameter_kept loops s p g q none = by_test (is_declared s p.name)
-  where
-    value : IsValued (value_of s.names p.at p.value)
-    value = scalar_valued s.names p.at loops (constant_in s.arrays s.layouts s.names p.at g.names) p.value
-        (right_empty (twice_faults s p.name p.at) (scalar_faults s.names p.at loops p.value) none)
-
-    by_test : (b : Bool) → IsSoundScope (if b then s else parameter_entered s p)
-    by_test true = g
-    by_test false = record {
+parameter_kept loops s p g q none =
+    let value : IsValued (scalar_within s.names p.at p.value) =
+    scalar_valued s.names p.at loops (constant_in s.arrays s.layouts s.names p.at g.names) p.value
+    (right_empty (twice_faults s p.name p.at) (scalar_faults s.names p.at loops p.value) none) in
+    kept_unless (is_declared s p.name) s (parameter_entered s p) g
+    (λ e. record {
       few_arrays = g.few_arrays;
       few_layouts = g.few_layouts;
       names = each_push (λ q (k : Known). IsMeaning s.arrays s.layouts q k.meaning) s.names p.name _ g.names value;
@@ -215,7 +217,7 @@ parameter_kept loops s p g q none = by_test (is_declared s p.name)
       reads = g.reads;
       reads_apart = g.reads_apart;
       outputs = g.outputs;
-    }
+    })
 
 -- ---- INTEGER, DECOMPOSITION
 
@@ -224,65 +226,59 @@ extent_there : (full : Bool) (loops : List (List ℕ)) (s : Scope) (z : SizedNam
 extent_there full loops s z g none =
     let rest = right_empty (twice_faults s z.name z.at) (extent_faults s loops z) (right_empty (fault_if full z.at cause.TooManyNames)
     (twice_faults s z.name z.at ++ extent_faults s loops z) none) in
-    extent_valued z.extent_at (value_of s.names z.at z.extent)
+    extent_valued z.extent_at (scalar_within s.names z.at z.extent)
     (scalar_valued s.names z.at loops (constant_in s.arrays s.layouts s.names z.at g.names) z.extent
-    (left_empty (scalar_faults s.names z.at loops z.extent) (bad_extent z.extent_at (value_of s.names z.at z.extent)) rest))
-    (right_empty (scalar_faults s.names z.at loops z.extent) (bad_extent z.extent_at (value_of s.names z.at z.extent)) rest)
+    (left_empty (scalar_faults s.names z.at loops z.extent) (bad_extent z.extent_at (scalar_within s.names z.at z.extent)) rest))
+    (right_empty (scalar_faults s.names z.at loops z.extent) (bad_extent z.extent_at (scalar_within s.names z.at z.extent)) rest)
 
 array_kept : (loops : List (List ℕ)) (s : Scope) (z : SizedName) → IsSoundScope s → Unit {0} → array_faults loops s z ≡ []
     → IsSoundScope (after_array s z)
-array_kept loops s z g q none = by_test (is_full s.arrays || is_declared s z.name) refl
-  where
-    by_test : (b : Bool) → (is_full s.arrays || is_declared s z.name) ≡ b → IsSoundScope (if b then s else array_entered s z)
-    by_test true e = g
-    by_test false e =
-        let new : ArrayEntry = record { name = z.name; extent = extent_of s z; aligned = None } in
-        let longer : length s.arrays ≤ length (s.arrays ++ new ∷ []) = no_shorter s.arrays new in
-        record {
-          few_arrays = one_more s.arrays new (left_false (is_full s.arrays) (is_declared s z.name) e);
-          few_layouts = g.few_layouts;
-          names = each_push (λ q (k : Known). IsMeaning (s.arrays ++ new ∷ []) s.layouts q k.meaning) s.names z.name _
-              (each_weaker (λ q (k : Known). IsMeaning s.arrays s.layouts q k.meaning)
-              (λ q (k : Known). IsMeaning (s.arrays ++ new ∷ []) s.layouts q k.meaning)
-              (λ q k is. meaning_more_arrays s.arrays (new ∷ []) s.layouts q k.meaning is) s.names g.names)
-              (some_and-is (slice_get (s.arrays ++ new ∷ []) (length s.arrays)) new (λ (x : ArrayEntry). x.name ≡ z.name)
-              (slice_get-last s.arrays new) refl);
-          layouts = g.layouts;
-          arrays = All-push (IsEntry s.layouts) s.arrays new g.arrays (record {
-            extent = extent_there (is_full s.arrays) loops s z g none;
-            stands = tt;
-          });
-          reads = All-weaker (IsNumber (length s.arrays)) (IsNumber (length (s.arrays ++ new ∷ [])))
-              (λ n is. number_more (length s.arrays) (length (s.arrays ++ new ∷ [])) n longer is) s.reads g.reads;
-          reads_apart = g.reads_apart;
-          outputs = All-weaker (λ (o : OutputName). o.array < length s.arrays) (λ (o : OutputName). o.array
-              < length (s.arrays ++ new ∷ [])) (λ o is. omega arith) s.outputs g.outputs;
-        }
+array_kept loops s z g q none =
+    kept_unless (is_full s.arrays || is_declared s z.name) s (array_entered s z) g (λ e.
+    let new : ArrayEntry = record { name = z.name; extent = extent_of s z; aligned = None } in
+    let longer : length s.arrays ≤ length (s.arrays ++ new ∷ []) = no_shorter s.arrays new in
+    record {
+      few_arrays = one_more s.arrays new (left_false (is_full s.arrays) (is_declared s z.name) e);
+      few_layouts = g.few_layouts;
+      names = each_push (λ q (k : Known). IsMeaning (s.arrays ++ new ∷ []) s.layouts q k.meaning) s.names z.name _
+          (each_weaker (λ q (k : Known). IsMeaning s.arrays s.layouts q k.meaning)
+          (λ q (k : Known). IsMeaning (s.arrays ++ new ∷ []) s.layouts q k.meaning)
+          (λ q k is. meaning_more_arrays s.arrays (new ∷ []) s.layouts q k.meaning is) s.names g.names)
+          (some_and-is (slice_get (s.arrays ++ new ∷ []) (length s.arrays)) new (λ (x : ArrayEntry). x.name ≡ z.name)
+          (slice_get-last s.arrays new) refl);
+      layouts = g.layouts;
+      arrays = All-push (IsEntry s.layouts) s.arrays new g.arrays (record {
+        extent = extent_there (is_full s.arrays) loops s z g none;
+        stands = tt;
+      });
+      reads = All-weaker (IsNumber (length s.arrays)) (IsNumber (length (s.arrays ++ new ∷ [])))
+          (λ n is. number_more (length s.arrays) (length (s.arrays ++ new ∷ [])) n longer is) s.reads g.reads;
+      reads_apart = g.reads_apart;
+      outputs = All-weaker (λ (o : OutputName). o.array < length s.arrays) (λ (o : OutputName). o.array
+          < length (s.arrays ++ new ∷ [])) (λ o is. omega arith) s.outputs g.outputs;
+    })
 
 layout_kept : (loops : List (List ℕ)) (s : Scope) (z : SizedName) → IsSoundScope s → Unit {0} → layout_faults loops s z ≡ []
     → IsSoundScope (after_layout s z)
-layout_kept loops s z g q none = by_test (is_full s.layouts || is_declared s z.name) refl
-  where
-    by_test : (b : Bool) → (is_full s.layouts || is_declared s z.name) ≡ b → IsSoundScope (if b then s else layout_entered s z)
-    by_test true e = g
-    by_test false e =
-        let new : LayoutEntry = record { name = z.name; extent = extent_of s z } in
-        record {
-          few_arrays = g.few_arrays;
-          few_layouts = one_more s.layouts new (left_false (is_full s.layouts) (is_declared s z.name) e);
-          names = each_push (λ q (k : Known). IsMeaning s.arrays (s.layouts ++ new ∷ []) q k.meaning) s.names z.name _
-              (each_weaker (λ q (k : Known). IsMeaning s.arrays s.layouts q k.meaning)
-              (λ q (k : Known). IsMeaning s.arrays (s.layouts ++ new ∷ []) q k.meaning)
-              (λ q k is. meaning_more_layouts s.arrays s.layouts (new ∷ []) q k.meaning is) s.names g.names)
-              (omega (arith, length-append s.layouts (new ∷ [])));
-          layouts = All-push IsSized s.layouts new g.layouts (extent_there (is_full s.layouts) loops s z g none);
-          arrays = All-weaker (IsEntry s.layouts) (IsEntry (s.layouts ++ new ∷ []))
-              (λ e' is. record { extent = is.extent; stands = stands_more s.layouts (new ∷ []) e'.extent e'.aligned is.stands }) s.arrays
-              g.arrays;
-          reads = g.reads;
-          reads_apart = g.reads_apart;
-          outputs = g.outputs;
-        }
+layout_kept loops s z g q none =
+    kept_unless (is_full s.layouts || is_declared s z.name) s (layout_entered s z) g (λ e.
+    let new : LayoutEntry = record { name = z.name; extent = extent_of s z } in
+    record {
+      few_arrays = g.few_arrays;
+      few_layouts = one_more s.layouts new (left_false (is_full s.layouts) (is_declared s z.name) e);
+      names = each_push (λ q (k : Known). IsMeaning s.arrays (s.layouts ++ new ∷ []) q k.meaning) s.names z.name _
+          (each_weaker (λ q (k : Known). IsMeaning s.arrays s.layouts q k.meaning)
+          (λ q (k : Known). IsMeaning s.arrays (s.layouts ++ new ∷ []) q k.meaning)
+          (λ q k is. meaning_more_layouts s.arrays s.layouts (new ∷ []) q k.meaning is) s.names g.names)
+          (omega (arith, length-append s.layouts (new ∷ [])));
+      layouts = All-push IsSized s.layouts new g.layouts (extent_there (is_full s.layouts) loops s z g none);
+      arrays = All-weaker (IsEntry s.layouts) (IsEntry (s.layouts ++ new ∷ []))
+          (λ e' is. record { extent = is.extent; stands = stands_more s.layouts (new ∷ []) e'.extent e'.aligned is.stands }) s.arrays
+          g.arrays;
+      reads = g.reads;
+      reads_apart = g.reads_apart;
+      outputs = g.outputs;
+    })
 
 -- ---- ALIGN
 
@@ -326,21 +322,21 @@ some_extent None is = absurd is
 some_extent (Some n) is = (n, refl)
 
 pub whole_there : (layouts : List LayoutEntry) (d : ℕ) → d < length layouts → All IsSized layouts → (w : ℕ)
-    × (layout_extent layouts (Some d) ≡ Some w)
+    × (entry_extent_of layouts (Some d) ≡ Some w)
 whole_there [] d within all = absurd (omega arith)
 whole_there (x ∷ xs) zero within all = some_extent x.extent (all 0 x (omega arith))
 whole_there (x ∷ xs) (suc d) within all = whole_there xs d (omega arith) (λ k y h. all (suc k) y (omega arith))
 
 standing : (layouts : List LayoutEntry) (to : Alignment) (extent : Option ℕ) → IsTo layouts to → All IsSized layouts
     → IsSomeAnd extent IsExtent
-    → is_outside to.offset extent (layout_extent layouts to.decomposition) ≡ false → IsStanding layouts extent to
+    → is_outside to.offset extent (entry_extent_of layouts to.decomposition) ≡ false → IsStanding layouts extent to
 standing layouts to extent is all sized out = from (some_extent extent sized) (whole_there layouts is.decomposition is.within all)
   where
-    from : (n : ℕ) × (extent ≡ Some n) → (w : ℕ) × (layout_extent layouts (Some is.decomposition) ≡ Some w) → IsStanding layouts extent to
+    from : (n : ℕ) × (extent ≡ Some n) → (w : ℕ) × (entry_extent_of layouts (Some is.decomposition) ≡ Some w) → IsStanding layouts extent to
     from (n, size) (w, whole) =
         let all_of : is_outside (Some is.offset) (Some n) (Some w) ≡ false =
         sym (ap (λ o. is_outside o (Some n) (Some w)) is.offset_is) ∙ sym (ap (λ o. is_outside to.offset o (Some w)) size)
-        ∙ sym (ap (is_outside to.offset extent) (ap (layout_extent layouts) is.decomposition_is ∙ whole)) ∙ out in
+        ∙ sym (ap (is_outside to.offset extent) (ap (entry_extent_of layouts) is.decomposition_is ∙ whole)) ∙ out in
         let in' = inside is.offset n w all_of in
         record {
           decomposition = is.decomposition;
@@ -365,7 +361,7 @@ aligned_kept to s l g q none = by_number (as_array (found s.names l.name)) none
   where
     by_aligned : (n : ℕ) (e : ArrayEntry) → slice_get s.arrays n ≡ Some e → IsEntry s.layouts e → (b : Bool)
         → (if b then fault_if true l.at (cause.Twice l.name)
-        else fault_if (is_outside to.offset e.extent (layout_extent s.layouts to.decomposition)) l.at cause.AlignOutside) ≡ []
+        else fault_if (is_outside to.offset e.extent (entry_extent_of s.layouts to.decomposition)) l.at cause.AlignOutside) ≡ []
         → IsAimed to (record s { arrays = if b then s.arrays else slice_set s.arrays n (record e { aligned = Some to }) })
     by_aligned n e there entry true f = cc
     by_aligned n e there entry false f =
@@ -383,7 +379,7 @@ aligned_kept to s l g q none = by_number (as_array (found s.names l.name)) none
                 (record {
                   extent = entry.extent;
                   stands = standing s.layouts to e.extent g.aim g.sound.layouts entry.extent
-                      (test_false (is_outside to.offset e.extent (layout_extent s.layouts to.decomposition)) l.at cause.AlignOutside f);
+                      (test_false (is_outside to.offset e.extent (entry_extent_of s.layouts to.decomposition)) l.at cause.AlignOutside f);
                 })
                 g.sound.arrays;
             reads = subst (λ k. All (IsNumber k) s.reads) (sym same) g.sound.reads;
@@ -393,7 +389,7 @@ aligned_kept to s l g q none = by_number (as_array (found s.names l.name)) none
           aim = g.aim;
         }
 
-    by_entry : (n : ℕ) (o : Option ArrayEntry) → slice_get s.arrays n ≡ o → aligned_faults to (layout_extent s.layouts to.decomposition) o
+    by_entry : (n : ℕ) (o : Option ArrayEntry) → slice_get s.arrays n ≡ o → aligned_faults to (entry_extent_of s.layouts to.decomposition) o
         l.name l.at ≡ []
         → IsAimed to (record s { arrays = entry_aligned to s.arrays n o })
     by_entry n None there f = cc
@@ -402,7 +398,7 @@ aligned_kept to s l g q none = by_number (as_array (found s.names l.name)) none
         (subst (IsEntry s.layouts) (get_or_from_slice_get s.arrays n e e there) (g.sound.arrays n e (slice_get_within s.arrays n e there)))
         (is_some e.aligned) f
 
-    by_number : (o : Option ℕ) → aligned_faults to (layout_extent s.layouts to.decomposition) (array_numbered s.arrays o) l.name l.at ≡ []
+    by_number : (o : Option ℕ) → aligned_faults to (entry_extent_of s.layouts to.decomposition) (array_numbered s.arrays o) l.name l.at ≡ []
         → IsAimed to (record s { arrays = arrays_aligned to s.arrays o })
     by_number None f = cc
     by_number (Some n) f = by_entry n (slice_get s.arrays n) refl f
@@ -417,13 +413,13 @@ aim_there : (loops : List (List ℕ)) (s : Scope) (target : List ℕ) (at : Sour
 aim_there loops s target at add g none fine =
     from (is_some-some (as_decomposition (found s.names target))
     (not_false _ (test_false (not (is_some (as_decomposition (found s.names target)))) at (cause.Unknown target) none)))
-    (some_value (offset_value s.names at (Some (pos 0)) add)
+    (some_value (offset_within s.names at (Some (pos 0)) add)
     (offset_valued s.names at loops (constant_in s.arrays s.layouts s.names at g.names) (Some (pos 0)) add zero_small fine))
   where
     zero_small : IsSmall (pos 0)
     zero_small = record { low = omega (arith, ints); high = omega (arith, ints) }
 
-    from : (d : ℕ) × (as_decomposition (found s.names target) ≡ Some d) → (z : ℤ) × (offset_value s.names at (Some (pos 0)) add ≡ Some z)
+    from : (d : ℕ) × (as_decomposition (found s.names target) ≡ Some d) → (z : ℤ) × (offset_within s.names at (Some (pos 0)) add ≡ Some z)
         → IsTo s.layouts (alignment_of s target at add)
     from (d, is) (z, value) = record {
       decomposition = d;
@@ -466,29 +462,38 @@ int_same x y e = (Decides-int_eq x y).1 e
 listed_there : (s : Scope) → IsSoundScope s → (q : List ℕ) (n : ℕ) → as_array (found s.names q) ≡ Some n → n < length s.arrays
 listed_there s g q n e = within_arrays s.arrays n (λ (x : ArrayEntry). x.name ≡ q) (array_in s g q n e)
 
+-- what is declared stays, and what is listed as read or as output may be more
+with_lists : (s : Scope) (reads : List ℤ) (outputs : List OutputName) → IsSoundScope s → All (IsNumber (length s.arrays)) reads
+    → AllPairs (λ (a b : ℤ). a ≢ b) reads → All (λ (o : OutputName). o.array < length s.arrays) outputs
+    → IsSoundScope (record s { reads = reads; outputs = outputs })
+with_lists s reads outputs g are_read apart are_written = record {
+  few_arrays = g.few_arrays;
+  few_layouts = g.few_layouts;
+  names = g.names;
+  layouts = g.layouts;
+  arrays = g.arrays;
+  reads = are_read;
+  reads_apart = apart;
+  outputs = are_written;
+}
+
 read_kept : (s : Scope) (l : Listed) → IsSoundScope s → Unit {0} → read_faults s l ≡ [] → IsSoundScope (after_read s l)
 read_kept s l g q none = by_number (number_of s l) refl none
   where
-    by_test : (n : ℕ) → n < length s.arrays → (b : Bool) → is_read s.reads (Some n) ≡ b
+    by_test : (n : ℕ) → n < length s.arrays → (b : Bool) → is_array_read s.reads (Some n) ≡ b
         → IsSoundScope (record s { reads = if b then s.reads else s.reads ++ pos n ∷ [] })
     by_test n within true e = g
-    by_test n within false e = record {
-      few_arrays = g.few_arrays;
-      few_layouts = g.few_layouts;
-      names = g.names;
-      layouts = g.layouts;
-      arrays = g.arrays;
-      reads = All-push (IsNumber (length s.arrays)) s.reads (pos n) g.reads (omega (arith, ints), within);
-      reads_apart = all_pairs_push (λ (a b : ℤ). a ≢ b) s.reads (pos n) g.reads_apart
-          (λ k d inside same. true_not_false _ (int_same (get_or s.reads k d) (pos n) same)
-          (any_false (λ v. int_eq v (pos n)) s.reads e k d inside));
-      outputs = g.outputs;
-    }
+    by_test n within false e = with_lists s (s.reads ++ pos n ∷ []) s.outputs g
+        (All-push (IsNumber (length s.arrays)) s.reads (pos n) g.reads (omega (arith, ints), within))
+        (all_pairs_push (λ (a b : ℤ). a ≢ b) s.reads (pos n) g.reads_apart
+        (λ k d inside same. true_not_false _ (int_same (get_or s.reads k d) (pos n) same)
+        (any_false (λ v. int_eq v (pos n)) s.reads e k d inside)))
+        g.outputs
 
-    by_number : (o : Option ℕ) → number_of s l ≡ o → again_faults (is_read s.reads o) o l ≡ []
+    by_number : (o : Option ℕ) → number_of s l ≡ o → again_faults (is_array_read s.reads o) o l ≡ []
         → IsSoundScope (record s { reads = reads_with s.reads o })
     by_number None e f = cc
-    by_number (Some n) e f = by_test n (listed_there s g l.name n e) (is_read s.reads (Some n)) refl
+    by_number (Some n) e f = by_test n (listed_there s g l.name n e) (is_array_read s.reads (Some n)) refl
 
 output_kept : (s : Scope) (l : Listed) → IsSoundScope s → Unit {0} → output_faults s l ≡ [] → IsSoundScope (after_output s l)
 output_kept s l g q none = by_number (number_of s l) refl none
@@ -496,16 +501,8 @@ output_kept s l g q none = by_number (number_of s l) refl none
     by_test : (n : ℕ) → n < length s.arrays → (b : Bool)
         → IsSoundScope (record s { outputs = if b then s.outputs else s.outputs ++ record { array = n; at = l.at } ∷ [] })
     by_test n within true = g
-    by_test n within false = record {
-      few_arrays = g.few_arrays;
-      few_layouts = g.few_layouts;
-      names = g.names;
-      layouts = g.layouts;
-      arrays = g.arrays;
-      reads = g.reads;
-      reads_apart = g.reads_apart;
-      outputs = All-push (λ (o : OutputName). o.array < length s.arrays) s.outputs _ g.outputs within;
-    }
+    by_test n within false = with_lists s s.reads (s.outputs ++ record { array = n; at = l.at } ∷ []) g g.reads g.reads_apart
+        (All-push (λ (o : OutputName). o.array < length s.arrays) s.outputs _ g.outputs within)
 
     by_number : (o : Option ℕ) → number_of s l ≡ o → again_faults (is_output s.outputs o) o l ≡ []
         → IsSoundScope (record s { outputs = outputs_with s.outputs o l.at })

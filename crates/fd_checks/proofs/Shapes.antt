@@ -3,7 +3,7 @@ use Rattle.std.proofs.Common.{◌≡◌, refl, ℕ, ℤ, ◌≤◌, ◌+◌, Boo
 use Rattle.std.proofs.Common.{sym, subst, length, length-append}
 use Rattle.std.specs.Prelude.{fold, is_some, nat_le, IsSomeAnd, IfOk, Result, Ok, Err}
 use Rattle.std.proofs.lemmas.Bool.Decides.{nat_tests}
-use Rattle.std.proofs.lemmas.List.Elements.{All-nil, All-push}
+use Rattle.std.proofs.lemmas.List.Elements.{All-nil}
 use Rattle.fd_words.specs.declared.combine.Combine.{Combine}
 use Rattle.fd_words.specs.declared.place.Role.{Role}
 use Rattle.fd_words.specs.declared.place.Role.TheVariants as role
@@ -15,8 +15,6 @@ use Rattle.fd_syntax.specs.declared.program.Program.{Program}
 use Rattle.fd_syntax.specs.declared.statement.BodyStatement.{BodyStatement}
 use Rattle.fd_syntax.specs.declared.statement.BodyStatement.TheVariants as statement
 use Rattle.fd_syntax.specs.declared.statement.Loop.{Loop}
-use Rattle.fd_syntax.specs.declared.statement.Statement.{Statement}
-use Rattle.fd_syntax.specs.declared.statement.Statement.TheVariants.{Distribute, Print, Do, Forall}
 use Rattle.fd_program.specs.Checks.{AreServed, IsServed, IsIndexFor}
 use Rattle.fd_words.specs.declared.source.SourceStop.{SourceStop}
 use Rattle.fd_program.specs.declared.checked.Checked.{Checked}
@@ -29,14 +27,13 @@ use Rattle.fd_scope.specs.Names.{name_eq}
 use Rattle.fd_loops.specs.declared.draft.Draft.{Draft}
 use Rattle.fd_resolve.specs.declared.marks.Mark.{Mark}
 use Rattle.fd_resolve.specs.declared.around.Around.{Around}
-use Rattle.fd_checks.specs.declared.walk.Walk.{Walk}
 use Rattle.fd_loops.specs.Bodies.{after_name, after_expr, behind_target, after_written, after_body}
 use Rattle.fd_loops.specs.Drafts.{start_draft, is_crowded, with_reference, is_worn, stamp_in, after_stamp, after_target}
 use Rattle.fd_loops.specs.Elements.{index_reference, own_reference, after_index, after_own_stamp, after_element}
-use Rattle.fd_resolve.specs.Resolve.{array_of, array_or_first, offset_resolved, subscript_resolved}
+use Rattle.fd_resolve.specs.Resolve.{array_called, array_or_first, offset_resolved, subscript_resolved}
 use Rattle.fd_checks.specs.Shapes.{IsShaped, AreShaped}
-use Rattle.fd_checks.specs.Walks.{around, site_of, draft_of, after_statement, past_open, step, start, resolved_program, IsAnswer}
-use Rattle.fd_checks.proofs.Terms.{site_terms, have_terms}
+use Rattle.fd_checks.specs.Walks.{site_of, draft_of, start, resolved_program, IsAnswer}
+use Rattle.fd_checks.proofs.Terms.{site_terms, have_terms, walk_all}
 
 last_of : Option Reference → List Reference → Option Reference
 last_of before [] = before
@@ -142,14 +139,14 @@ module _ (h : Head) (a : Around) where
   served_by d (Scalar s) p f = tt
 
   own_by : (r : Role) (d : Draft) (e : Element) (b : Bool) → is_crowded d ≡ b → Serves d e.subscript → IsGood d
-      → IsGood (if b then d else with_reference (after_own_stamp h a d e.subscript (array_of h a e.name)) (own_reference h a d r e))
+      → IsGood (if b then d else with_reference (after_own_stamp h a d e.subscript (array_called h a e.name)) (own_reference h a d r e))
   own_by r d e true f p g = g
   own_by r d e false f p g =
-      let same = after_own_stamp-references h a d e.subscript (array_of h a e.name) in
-      with_good (after_own_stamp h a d e.subscript (array_of h a e.name)) (own_reference h a d r e)
+      let same = after_own_stamp-references h a d e.subscript (array_called h a e.name) in
+      with_good (after_own_stamp h a d e.subscript (array_called h a e.name)) (own_reference h a d r e)
       (subst (λ (rs : List Reference). IsServed (last_of None rs) (subscript_resolved h a e.subscript)) (sym same)
       (served_by d e.subscript p f))
-      (same_good d (after_own_stamp h a d e.subscript (array_of h a e.name)) same g)
+      (same_good d (after_own_stamp h a d e.subscript (array_called h a e.name)) same g)
 
   after_element-good : (r : Role) (d : Draft) (e : Element) → IsGood d → IsGood (after_element h a r d e)
   after_element-good r d e g =
@@ -192,20 +189,8 @@ site_shaped h a used loop =
     let g = body_good h a loop.index loop.body (start_draft used) (start_good used) in
     record { few = g.few; served = g.served; terms = site_terms h a used loop }
 
-statement_shaped : (h : Head) (w : Walk) (s : Statement) → AreShaped w.sites → AreShaped (after_statement h w s).sites
-statement_shaped h w (Distribute at name name_at form) p = p
-statement_shaped h w (Print at name name_at) p = p
-statement_shaped h w (Do at variable variable_at low high inside) p = p
-statement_shaped h w (Forall loop) p =
-    All-push IsShaped w.sites (site_of h (around w loop.at) loop (draft_of h (around w loop.at) w.used loop)) p
-    (site_shaped h (around w loop.at) w.used loop)
-
-walk_shaped : (h : Head) (list : List Statement) (w : Walk) → AreShaped w.sites → AreShaped (fold (step h) w list).sites
-walk_shaped h [] w p = p
-walk_shaped h (s ∷ rest) w p = walk_shaped h rest (step h w s) (statement_shaped h (past_open w) s p)
-
 have_shapes : (p : Program) → AreShaped (resolved_program p).sites
-have_shapes p = walk_shaped (head_of p) p.statements (start (head_of p)) (All-nil IsShaped)
+have_shapes p = walk_all IsShaped (head_of p) (site_shaped (head_of p)) p.statements (start (head_of p)) (All-nil IsShaped)
 
 -- ---- an answer
 

@@ -24,7 +24,7 @@ use Rattle.fd_loops.specs.declared.draft.Target.{Target}
 use Rattle.fd_resolve.specs.declared.around.Around.{Around}
 use Rattle.fd_loops.specs.Bodies.{after_expr, behind_target, after_written, after_body, body_faults}
 use Rattle.fd_loops.specs.Drafts.{start_draft, is_crowded, after_target}
-use Rattle.fd_resolve.specs.Resolve.{array_of}
+use Rattle.fd_resolve.specs.Resolve.{array_called}
 use Rattle.fd_checks.specs.Walks.{site_of, draft_of}
 use Rattle.fd_checks.proofs.Accepted.{kept_along, anything, zip_length, zip_at}
 use Rattle.fd_checks.proofs.Bodies.{IsTarget, IsSound, body_sound, expr_body, element_body}

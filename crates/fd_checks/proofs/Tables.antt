@@ -23,13 +23,14 @@ use Rattle.fd_scope.specs.declared.scope.ArrayEntry.{ArrayEntry}
 use Rattle.fd_scope.specs.declared.scope.LayoutEntry.{LayoutEntry}
 use Rattle.fd_scope.specs.declared.scope.Scope.{Scope}
 use Rattle.fd_scope.specs.declared.scope.Tables.{Tables}
-use Rattle.fd_scope.specs.Heads.{layout_of, own_layout, facts_of, entered, after_entry, tables_of, head_of, head_faults}
+use Rattle.fd_scope.specs.Heads.{layout_of, own_layout, array_facts, entered, after_entry, tables_of, head_of, head_faults}
 use Rattle.fd_scope.specs.Names.{found, is_earlier, declared_before, known, as_array}
 use Rattle.fd_scope.specs.Scope as scopes
 use Rattle.fd_resolve.specs.declared.around.Around.{Around}
-use Rattle.fd_resolve.specs.Resolve.{array_of}
+use Rattle.fd_resolve.specs.Resolve.{array_called}
 use Rattle.fd_checks.proofs.Accepted.{slice_get-front, slice_get-last}
-use Rattle.fd_checks.proofs.Bodies.{zip_push, zip_weaker}
+use Rattle.fd_program.specs.AmongLaws.{zip_weaker}
+use Rattle.fd_checks.proofs.Bodies.{zip_push}
 use Rattle.fd_checks.proofs.Scopes.{IsEntry, IsSized, IsStanding, Stands, IsSoundScope, array_in, declared_sound}
 
 -- the facts of an array are those of its declaration; where it isn't aligned, its decomposition has its extent
@@ -49,7 +50,7 @@ pub record AreTables (scope : Scope) (t : Tables) (done : List ArrayEntry) : Typ
   pub arrays : AllZip (IsFactsOf t.layouts) t.arrays done
   pub layouts : All (λ (l : LayoutName). IsExtent l.extent) t.layouts
   pub count : length t.layouts ≤ length scope.layouts + length done
-  pub front : (d w : ℕ) → scopes.layout_extent scope.layouts (Some d) ≡ Some w → HasLayout t.layouts d w
+  pub front : (d w : ℕ) → scopes.entry_extent_of scope.layouts (Some d) ≡ Some w → HasLayout t.layouts d w
 
 pub extent_at : (layouts : List LayoutName) (d w : ℕ) → HasLayout layouts d w → layout_extent layouts d ≡ w
 extent_at layouts d w has = ap (λ (o : Option LayoutName). option_map_or (λ (l : LayoutName). l.extent) o 0) has.there ∙ has.extent
@@ -90,7 +91,7 @@ module _ (scope : Scope) where
       ap (λ (o : Option LayoutName). option_map_or (λ (l : LayoutName). l.extent) o 0) (slice_get-last t.layouts own) in
       let count : length t.layouts ≤ length scope.layouts + length done = g.count in
       record {
-        arrays = zip_push (IsFactsOf layouts) t.arrays done (facts_of e (length t.layouts) (pos 0)) e
+        arrays = zip_push (IsFactsOf layouts) t.arrays done (array_facts e (length t.layouts) (pos 0)) e
             (zip_weaker (IsFactsOf t.layouts) (IsFactsOf layouts) (facts_later t.layouts (own ∷ [])) t.arrays done g.arrays)
             (record {
               name = refl;
@@ -122,7 +123,7 @@ module _ (scope : Scope) where
       ∙ extent_at t.layouts stands.decomposition stands.whole has in
       let count : length t.layouts ≤ length scope.layouts + length done = g.count in
       record {
-        arrays = zip_push (IsFactsOf t.layouts) t.arrays done (facts_of e (unwrap_or to.decomposition 0) (unwrap_or to.offset (pos 0))) e
+        arrays = zip_push (IsFactsOf t.layouts) t.arrays done (array_facts e (unwrap_or to.decomposition 0) (unwrap_or to.offset (pos 0))) e
             g.arrays
             (record {
               name = refl;
@@ -224,16 +225,16 @@ zip_there layouts (a ∷ as') (e ∷ es) z zero P is = (a, e, refl, refl, z.0, i
 zip_there layouts (a ∷ as') (e ∷ es) z (suc n) P is = zip_there layouts as' es z.1 n P is
 
 module _ (h : Head) (g : IsSoundHead h) (a : Around) where
-  facts_there : (q : List ℕ) (n : ℕ) → array_of h a q ≡ Some n → (f : ArrayFacts) × (e : ArrayEntry)
+  facts_there : (q : List ℕ) (n : ℕ) → array_called h a q ≡ Some n → (f : ArrayFacts) × (e : ArrayEntry)
       × (slice_get h.tables.arrays n ≡ Some f) × (slice_get h.scope.arrays n ≡ Some e) × IsFactsOf h.tables.layouts f e × (e.name ≡ q)
   facts_there q n e = zip_there h.tables.layouts h.tables.arrays h.scope.arrays g.tables.arrays n (λ (x : ArrayEntry). x.name ≡ q)
       (array_in h.scope g.scope q n (declared_name h.scope.names a.here q n e))
 
-  pub array_known : (q : List ℕ) (n : ℕ) → array_of h a q ≡ Some n → n < length h.tables.arrays
+  pub array_known : (q : List ℕ) (n : ℕ) → array_called h a q ≡ Some n → n < length h.tables.arrays
   array_known q n e = let t = facts_there q n e in slice_get_within h.tables.arrays n t.0 t.2
 
   -- an array has one name
-  pub one_name : (q r : List ℕ) (n : ℕ) → array_of h a q ≡ Some n → array_of h a r ≡ Some n → q ≡ r
+  pub one_name : (q r : List ℕ) (n : ℕ) → array_called h a q ≡ Some n → array_called h a r ≡ Some n → q ≡ r
   one_name q r n e f =
       let t = facts_there q n e in
       let u = facts_there r n f in

@@ -18,6 +18,7 @@ use Rattle.fd_syntax.specs.declared.statement.Statement.{Statement}
 use Rattle.fd_syntax.specs.declared.statement.Statement.TheVariants.{Distribute, Print, Do, Forall}
 use Rattle.fd_program.specs.declared.reference.Reference.{Reference}
 use Rattle.fd_program.specs.declared.scalar.CheckedScalar.{CheckedScalar}
+use Rattle.fd_program.specs.declared.site.Site.{Site}
 use Rattle.fd_program.specs.Terms.{IsTerm, HasTerms, HaveTerms}
 use Rattle.fd_scope.specs.declared.head.Head.{Head}
 use Rattle.fd_scope.specs.Heads.{head_of}
@@ -29,7 +30,7 @@ use Rattle.fd_checks.specs.declared.walk.Walk.{Walk}
 use Rattle.fd_loops.specs.Bodies.{after_expr, behind_target, after_written, after_body}
 use Rattle.fd_loops.specs.Drafts.{start_draft, is_crowded, with_reference, is_worn, stamp_in, after_stamp, after_target}
 use Rattle.fd_loops.specs.Elements.{after_index, after_own_stamp, after_own, after_element}
-use Rattle.fd_resolve.specs.Resolve.{name_resolved, named, array_of}
+use Rattle.fd_resolve.specs.Resolve.{name_resolved, named, array_called}
 use Rattle.fd_checks.specs.Walks.{around, site_of, draft_of, after_statement, past_open, step, start, resolved_program}
 
 -- ---- what leaves the names as they are
@@ -60,8 +61,8 @@ after_own_stamp-terms h a d s (Some array) = after_stamp-terms d _ _ _
 after_own-terms : (h : Head) (a : Around) (r : Role) (d : Draft) (e : Element) → (after_own h a r d e).terms ≡ d.terms
 after_own-terms h a r d e =
     one_of (is_crowded d) d _ d.terms refl
-    (with_reference-terms (after_own_stamp h a d e.subscript (array_of h a e.name)) _
-    ∙ after_own_stamp-terms h a d e.subscript (array_of h a e.name))
+    (with_reference-terms (after_own_stamp h a d e.subscript (array_called h a e.name)) _
+    ∙ after_own_stamp-terms h a d e.subscript (array_called h a e.name))
 
 after_element-terms : (h : Head) (a : Around) (r : Role) (d : Draft) (e : Element) → (after_element h a r d e).terms ≡ d.terms
 after_element-terms h a r d e = after_own-terms h a r (after_index h a d e.subscript) e ∙ after_index-terms h a d e.subscript
@@ -112,17 +113,18 @@ module _ (h : Head) (a : Around) (index : List ℕ) where
 pub site_terms : (h : Head) (a : Around) (used : List ℕ) (loop : Loop) → HasTerms (site_of h a loop (draft_of h a used loop))
 site_terms h a used loop = body_terms h a loop.index loop.body (start_draft used) (All-nil IsTerm)
 
-statement_terms : (h : Head) (w : Walk) (s : Statement) → HaveTerms w.sites → HaveTerms (after_statement h w s).sites
-statement_terms h w (Distribute at name name_at form) p = p
-statement_terms h w (Print at name name_at) p = p
-statement_terms h w (Do at variable variable_at low high inside) p = p
-statement_terms h w (Forall loop) p =
-    All-push HasTerms w.sites (site_of h (around w loop.at) loop (draft_of h (around w loop.at) w.used loop)) p
-    (site_terms h (around w loop.at) w.used loop)
+-- what holds of each loop as it is resolved holds of all
+module _ (P : Site → Type 0) (h : Head)
+    (of_loop : (a : Around) (used : List ℕ) (loop : Loop) → P (site_of h a loop (draft_of h a used loop))) where
+  statement_all : (w : Walk) (s : Statement) → All P w.sites → All P (after_statement h w s).sites
+  statement_all w (Distribute at name name_at form) p = p
+  statement_all w (Print at name name_at) p = p
+  statement_all w (Do at variable variable_at low high inside) p = p
+  statement_all w (Forall loop) p = All-push P w.sites _ p (of_loop (around w loop.at) w.used loop)
 
-walk_terms : (h : Head) (list : List Statement) (w : Walk) → HaveTerms w.sites → HaveTerms (fold (step h) w list).sites
-walk_terms h [] w p = p
-walk_terms h (s ∷ rest) w p = walk_terms h rest (step h w s) (statement_terms h (past_open w) s p)
+  pub walk_all : (list : List Statement) (w : Walk) → All P w.sites → All P (fold (step h) w list).sites
+  walk_all [] w p = p
+  walk_all (s ∷ rest) w p = walk_all rest (step h w s) (statement_all (past_open w) s p)
 
 pub have_terms : (p : Program) → HaveTerms (resolved_program p).sites
-have_terms p = walk_terms (head_of p) p.statements (start (head_of p)) (All-nil HasTerms)
+have_terms p = walk_all HasTerms (head_of p) (site_terms (head_of p)) p.statements (start (head_of p)) (All-nil HasTerms)

@@ -21,12 +21,13 @@ use Rattle.fd_program.specs.declared.site.Site.{Site}
 use Rattle.fd_scope.specs.declared.head.Head.{Head}
 use Rattle.fd_scope.specs.Faults.{fault_if, along}
 use Rattle.fd_resolve.specs.declared.around.Around.{Around}
+use Rattle.fd_checks.specs.declared.walk.Open.{Open}
 use Rattle.fd_checks.specs.declared.walk.Walk.{Walk}
 use Rattle.fd_loops.specs.Bodies.{after_body, body_faults}
 use Rattle.fd_loops.specs.Drafts.{start_draft, used_at}
-use Rattle.fd_resolve.specs.Resolve.{array_of, array_or_first, array_unknown, scalar_unknowns}
+use Rattle.fd_resolve.specs.Resolve.{array_called, array_or_first, array_unknown, scalar_unknowns}
 use Rattle.fd_checks.specs.Filled.{IsFilled}
-use Rattle.fd_checks.specs.Walks.{around, taken_faults, with_statement, site_of, draft_of, after_loop, loop_head_faults, loop_faults}
+use Rattle.fd_checks.specs.Walks.{around, taken_faults, with_statement, site_of, draft_of, walked_loop, loop_head_faults, loop_faults}
 use Rattle.fd_checks.specs.Walks.{after_statement, statement_faults, past_open, step, step_faults, start, distribute_resolved}
 use Rattle.fd_checks.proofs.Accepted.{left_empty, right_empty, test_false, not_false, is_some-some, kept_along}
 use Rattle.fd_checks.proofs.Distributes.{distribute_sound}
@@ -57,24 +58,24 @@ pub record IsSoundWalk (h : Head) (w : Walk) : Type 0 where
 
 -- ---- a statement that is no loop
 
+re_sound : (h : Head) (w : Walk) (outer : List Open) (list : List CheckedStatement) → IsSoundWalk h w
+    → All (IsStatementIn h (length w.sites)) list → IsSoundWalk h (record w { outer = outer; statements = list })
+re_sound h w outer list g all =
+    record { used = g.used; few = g.few; sites = g.sites; below = g.below; stamps = g.stamps; statements = all }
+
 with_sound : (h : Head) (w : Walk) (s : CheckedStatement) → IsSoundWalk h w → IsStatementIn h (length w.sites) s
     → IsSoundWalk h (with_statement w s)
-with_sound h w s g is = record {
-  used = g.used;
-  few = g.few;
-  sites = g.sites;
-  below = g.below;
-  stamps = g.stamps;
-  statements = All-push (IsStatementIn h (length w.sites)) w.statements s g.statements is;
-}
+with_sound h w s g is =
+    re_sound h w w.outer (w.statements ++ s ∷ []) g (All-push (IsStatementIn h (length w.sites)) w.statements s g.statements is)
 
 first_array : (h : Head) → IsSoundHead h → (a : Around) (name : List ℕ) (at : SourcePlace) → array_unknown h a name at ≡ []
     → array_or_first h a name < length h.tables.arrays
 first_array h g a name at none =
-    from (is_some-some (array_of h a name) (not_false (is_some (array_of h a name)) (test_false (not (is_some (array_of h a name))) at
+    from (is_some-some (array_called h a name)
+    (not_false (is_some (array_called h a name)) (test_false (not (is_some (array_called h a name))) at
     (cause.Unknown name) none)))
   where
-    from : (k : ℕ) × (array_of h a name ≡ Some k) → array_or_first h a name < length h.tables.arrays
+    from : (k : ℕ) × (array_called h a name ≡ Some k) → array_or_first h a name < length h.tables.arrays
     from (k, is) = subst (λ (o : Option ℕ). unwrap_or o 0 < length h.tables.arrays) (sym is) (array_known h g a name k is)
 
 -- ---- a loop
@@ -98,7 +99,7 @@ apart_by arrays used r s low high = λ ir is same stamp.
     absurd (omega arith)
 
 loop_sound : (h : Head) → IsSoundHead h → (w : Walk) (loop : Loop) → IsSoundWalk h w → 1 ≤ length loop.body
-    → loop_faults h (around w loop.at) w loop ≡ [] → IsSoundWalk h (after_loop h (around w loop.at) w loop)
+    → loop_faults h (around w loop.at) w loop ≡ [] → IsSoundWalk h (walked_loop h (around w loop.at) w loop)
 loop_sound h head w loop g some none =
     let a = around w loop.at in
     let d = draft_of h a w.used loop in
@@ -149,21 +150,14 @@ statement_sound h head w (Distribute at name name_at form) g filled none =
     with_sound h w (distribute_resolved h (around w at) at name form) g (distribute_sound h head (around w at) name name_at form none)
 statement_sound h head w (Print at name name_at) g filled none =
     with_sound h w (checked.Print at (array_or_first h (around w at) name)) g (first_array h head (around w at) name name_at none)
-statement_sound h head w (Do at variable variable_at low high inside) g filled none = record {
-  used = g.used;
-  few = g.few;
-  sites = g.sites;
-  below = g.below;
-  stamps = g.stamps;
-  statements = All-push (IsStatementIn h (length w.sites)) w.statements _ g.statements tt;
-}
+statement_sound h head w (Do at variable variable_at low high inside) g filled none =
+    re_sound h w _ (w.statements ++ _ ∷ []) g (All-push (IsStatementIn h (length w.sites)) w.statements _ g.statements tt)
 statement_sound h head w (Forall loop) g filled none = loop_sound h head w loop g filled none
 
 step_sound : (h : Head) → IsSoundHead h → (w : Walk) (s : Statement) → IsSoundWalk h w → IsFilled s → step_faults h w s ≡ []
     → IsSoundWalk h (step h w s)
 step_sound h head w s g filled none =
-    statement_sound h head (past_open w) s
-    (record { used = g.used; few = g.few; sites = g.sites; below = g.below; stamps = g.stamps; statements = g.statements }) filled none
+    statement_sound h head (past_open w) s (re_sound h w (past_open w).outer w.statements g g.statements) filled none
 
 start_sound : (h : Head) → IsSoundWalk h (start h)
 start_sound h = record {

@@ -27,18 +27,20 @@ use Rattle.fd_scope.specs.declared.names.Known.{Known}
 use Rattle.fd_scope.specs.declared.names.Meaning.{Meaning}
 use Rattle.fd_scope.specs.declared.names.Meaning.TheVariants.{Constant, Array, Decomposition}
 use Rattle.fd_scope.specs.declared.scope.ArrayEntry.{ArrayEntry}
+use Rattle.fd_scope.specs.declared.scope.Scope.{Scope}
+use Rattle.fd_scope.specs.declared.scope.Tables.{Tables}
 use Rattle.fd_scope.specs.Faults.{fault_if, along, IsLeast}
 use Rattle.fd_scope.specs.Heads.{head_of, head_faults}
 use Rattle.fd_scope.specs.Names.{known, name_eq}
-use Rattle.fd_scope.specs.Scalars.{value_of, scalar_faults}
-use Rattle.fd_scope.specs.Scope.{is_declared, extent_within, bad_extent, layout_extent}
+use Rattle.fd_scope.specs.Scalars.{scalar_within, scalar_faults}
+use Rattle.fd_scope.specs.Scope.{is_declared, extent_within, bad_extent, entry_extent_of}
 use Rattle.fd_loops.specs.declared.draft.Draft.{Draft}
 use Rattle.fd_resolve.specs.declared.around.Around.{Around}
 use Rattle.fd_checks.specs.declared.walk.Open.{Open}
 use Rattle.fd_checks.specs.declared.walk.Walk.{Walk}
 use Rattle.fd_loops.specs.Bodies.{after_body, body_faults}
 use Rattle.fd_loops.specs.Drafts.{start_draft}
-use Rattle.fd_resolve.specs.Resolve.{array_of, array_or_first, array_unknown, resolved_scalar, scalar_unknowns}
+use Rattle.fd_resolve.specs.Resolve.{array_called, array_or_first, array_unknown, resolved_scalar, scalar_unknowns}
 
 -- ---- the DOs around a statement
 
@@ -89,7 +91,7 @@ meant_extent h (Some k) = of_meaning k.meaning
     of_meaning : Meaning → Option ℕ
     of_meaning (Constant value) = None
     of_meaning (Array number) = array_extent (slice_get h.scope.arrays number)
-    of_meaning (Decomposition number) = layout_extent h.scope.layouts (Some number)
+    of_meaning (Decomposition number) = entry_extent_of h.scope.layouts (Some number)
 
 abbrev pub is_other_extent : Option ℕ → Option ℕ → Bool
 is_other_extent None whole = false
@@ -100,15 +102,15 @@ is_other_extent (Some extent) (Some whole) = not (extent == whole)
 abbrev pub map_faults : Head → Around → List ℕ → List ℕ → SourcePlace → List SourceFault
 map_faults h a name map_name map_at =
     array_unknown h a map_name map_at
-    ++ fault_if (is_some (array_of h a map_name)
+    ++ fault_if (is_some (array_called h a map_name)
     && is_other_extent (meant_extent h (known h.scope.names a.here map_name)) (meant_extent h (known h.scope.names a.here name))) map_at
     cause.MapLength
 
 abbrev pub size_of : Head → Around → Scalar → Option ℕ
-size_of h a size = extent_within (value_of h.scope.names a.here size)
+size_of h a size = extent_within (scalar_within h.scope.names a.here size)
 
 abbrev pub size_faults : Head → Around → Scalar → SourcePlace → List SourceFault
-size_faults h a size at = scalar_faults h.scope.names a.here h.loops size ++ bad_extent at (value_of h.scope.names a.here size)
+size_faults h a size at = scalar_faults h.scope.names a.here h.loops size ++ bad_extent at (scalar_within h.scope.names a.here size)
 
 abbrev pub form_faults : Head → Around → List ℕ → Form → List SourceFault
 form_faults h a name form.Block = []
@@ -165,8 +167,8 @@ with_site w site used = record w {
   statements = w.statements ++ checked.Forall (length w.sites) ∷ [];
 }
 
-abbrev pub after_loop : Head → Around → Walk → Loop → Walk
-after_loop h a w loop = with_site w (site_of h a loop (draft_of h a w.used loop)) (draft_of h a w.used loop).used
+abbrev pub walked_loop : Head → Around → Walk → Loop → Walk
+walked_loop h a w loop = with_site w (site_of h a loop (draft_of h a w.used loop)) (draft_of h a w.used loop).used
 
 -- TooManyLoops: there are 128 before this one
 abbrev pub loop_head_faults : Head → Around → Walk → Loop → List SourceFault
@@ -186,7 +188,7 @@ abbrev pub after_statement : Head → Walk → Statement → Walk
 after_statement h w (Distribute at name name_at form) = with_statement w (distribute_resolved h (around w at) at name form)
 after_statement h w (Print at name name_at) = with_statement w (checked.Print at (array_or_first h (around w at) name))
 after_statement h w (Do at variable variable_at low high inside) = after_do h (around w at) w at variable low high inside
-after_statement h w (Forall loop) = after_loop h (around w loop.at) w loop
+after_statement h w (Forall loop) = walked_loop h (around w loop.at) w loop
 
 abbrev pub statement_faults : Head → Walk → Statement → List SourceFault
 statement_faults h w (Distribute at name name_at form) = distribute_faults h (around w at) name name_at form
@@ -211,15 +213,12 @@ start h = record { outer = []; used = replicate (length h.tables.layouts) 0; sit
 abbrev pub walked : Head → Program → Walk
 walked h p = fold (step h) (start h) p.statements
 
+-- a program with a head, and no statement
+abbrev pub headed : Tables → Scope → Checked
+headed t s = record { arrays = t.arrays; layouts = t.layouts; reads = s.reads; outputs = s.outputs; sites = []; statements = [] }
+
 abbrev pub resolved_in : Head → Walk → Checked
-resolved_in h w = record {
-  arrays = h.tables.arrays;
-  layouts = h.tables.layouts;
-  reads = h.scope.reads;
-  outputs = h.scope.outputs;
-  sites = w.sites;
-  statements = w.statements;
-}
+resolved_in h w = record (headed h.tables h.scope) { sites = w.sites; statements = w.statements }
 
 -- the program with its names resolved; what has a fault has a default in its place
 abbrev pub resolved_program : Program → Checked

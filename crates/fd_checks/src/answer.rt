@@ -1,4 +1,4 @@
-ghost use Rattle.std.specs.Prelude.{◌≡◌, ◌++◌, ◌∷◌, [], replicate, length, fold, OnOk, IfOk};
+ghost use Rattle.std.specs.Prelude.{◌≡◌, ◌++◌, fold, OnOk, IfOk};
 ghost use Rattle.fd_scope.specs.Faults.{along};
 ghost use Rattle.fd_program.specs.Checks.{IsChecked};
 ghost use Rattle.fd_program.specs.Terms.{HaveTerms};
@@ -6,9 +6,8 @@ ghost use Rattle.fd_checks.specs.Filled.{AreFilled};
 ghost use Rattle.fd_checks.specs.Shapes.{AreShaped};
 ghost use Rattle.fd_checks.specs.Walks.{start, step, step_faults, resolved_in, IsAnswer};
 
-use crate::Walk;
 use crate::statements::step_over;
-use fd_loops::UsedStamps;
+use crate::walk::Walk;
 use fd_program::Checked;
 use fd_scope::{Faults, Head, Scope, Tables, head_facts};
 use fd_syntax::{Program, Statement};
@@ -16,32 +15,13 @@ use fd_words::{Memory, SourceStop};
 use sqlite_items::Items;
 use std::alloc::Global;
 
-fn push_zero(used: &mut UsedStamps) -> Result<(), Memory>
-    ensures { OnOk result (used.new ≡ used.old ++ 0 ∷ []) }
-{
-    match used.push(0) {
-        Ok(()) => Ok(()),
-        Err(_) => Err(Memory),
-    }
-}
-
-fn zeros(alloc: Global, count: usize) -> Result<UsedStamps, Memory>
-    ensures { IfOk result (λ u. u ≡ replicate count 0) }
-{
-    let mut used = Items::new(alloc);
-    for _ in 0..count {
-        push_zero(&mut used)?;
-    }
-    Ok(used)
-}
-
 fn walk_start(alloc: Global, head: &Head) -> Result<Walk, Memory>
     ensures { IfOk result (λ w. w ≡ start head.now) }
 {
-    let used = zeros(alloc, head.tables.layouts.len())?;
+    let used = vec![in alloc; 0u32; head.tables.layouts.len()]?;
     Ok(Walk {
         outer: Items::new(alloc),
-        used,
+        used: Items::from_vec(used),
         sites: Items::new(alloc),
         statements: Items::new(alloc),
     })

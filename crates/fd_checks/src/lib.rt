@@ -6,4 +6,3 @@ mod statements;
 mod walk;
 
 pub use answer::check;
-pub use walk::{Open, OpenList, Walk};

@@ -1,16 +1,16 @@
-ghost use Rattle.std.specs.Prelude.{◌≡◌, ◌++◌, ◌∷◌, [], Some, slice_get, OnOk, IfOk};
-ghost use Rattle.fd_checks.specs.Walks.{passed, variables_of, around, taken_faults, with_statement, own_decomposition, meant_decomposition};
+ghost use Rattle.std.specs.Prelude.{◌≡◌, ◌++◌, ◌||◌, Some, slice_get, OnOk, IfOk};
+ghost use Rattle.fd_checks.specs.Walks.{passed, variables_of, around, with_statement, own_decomposition, meant_decomposition};
 ghost use Rattle.fd_checks.specs.Walks.{array_extent, meant_extent, is_other_extent, map_faults, size_of, size_faults, form_faults};
 ghost use Rattle.fd_checks.specs.Walks.{form_resolved, distribute_faults, distribute_resolved, do_faults, after_do, site_of, with_site};
-ghost use Rattle.fd_checks.specs.Walks.{after_loop, loop_head_faults, loop_faults, after_statement, statement_faults, step, step_faults};
-ghost use Rattle.fd_scope.specs.Scope.{layout_extent};
+ghost use Rattle.fd_checks.specs.Walks.{walked_loop, loop_head_faults, loop_faults, after_statement, statement_faults, step, step_faults};
+ghost use Rattle.fd_scope.specs.Scope.{is_declared, entry_extent_of};
 ghost use Rattle.std.specs.List.{list_any};
 ghost use Rattle.fd_scope.specs.Names.{name_eq};
 
-use crate::{Open, OpenList, Walk};
+use crate::walk::{Open, OpenList, Walk};
 use chaos_dist::{Shape, StepForm};
 use fd_loops::{Draft, UsedStamps, loop_body};
-use fd_program::{CheckedStatement, Site, Sites, decomposition};
+use fd_program::{CheckedStatement, Site, decomposition};
 use fd_resolve::{Around, array_named, array_or_zero, note_array, note_scalar, resolve, same_name};
 use fd_scope::{
     ArrayEntry, Faults, Head, Known, LayoutEntry, Meaning, as_extent, declared_value, narrow,
@@ -24,15 +24,6 @@ use std::alloc::Global;
 /// The most FORALLs.
 const MOST_LOOPS: usize = 128;
 
-fn push_open(list: &mut OpenList, one: Open) -> Result<(), Memory>
-    ensures { OnOk result (list.new ≡ list.old ++ one ∷ []) }
-{
-    match list.push(one) {
-        Ok(()) => Ok(()),
-        Err(_) => Err(Memory),
-    }
-}
-
 /// The DOs around the next statement.
 fn still_open(alloc: Global, list: &[Open]) -> Result<OpenList, Memory>
     ensures { IfOk result (λ o. o ≡ passed list.now) }
@@ -40,23 +31,13 @@ fn still_open(alloc: Global, list: &[Open]) -> Result<OpenList, Memory>
     let mut inner = Items::new(alloc);
     for one in list {
         if 0 < one.left {
-            let fewer = Open {
+            inner.push(Open {
                 name: one.name,
                 left: one.left - 1,
-            };
-            push_open(&mut inner, fewer)?;
+            })?;
         }
     }
     Ok(inner)
-}
-
-fn push_name(names: &mut Items<Name>, name: Name) -> Result<(), Memory>
-    ensures { OnOk result (names.new ≡ names.old ++ name ∷ []) }
-{
-    match names.push(name) {
-        Ok(()) => Ok(()),
-        Err(_) => Err(Memory),
-    }
 }
 
 fn names_of(alloc: Global, list: &[Open]) -> Result<Items<Name>, Memory>
@@ -64,7 +45,7 @@ fn names_of(alloc: Global, list: &[Open]) -> Result<Items<Name>, Memory>
 {
     let mut names = Items::new(alloc);
     for one in list {
-        push_name(&mut names, one.name)?;
+        names.push(one.name)?;
     }
     Ok(names)
 }
@@ -82,27 +63,18 @@ fn is_variable(variables: &[Name], name: Name) -> bool
     variables.iter().any(|other| same_name(name, *other))
 }
 
-fn note_taken(
-    head: &Head,
-    around: &Around,
-    faults: &mut Faults,
-    name: Name,
-    at: SourcePlace,
-) -> Result<(), Memory>
-    ensures noted { OnOk result (faults.new ≡ faults.old ++ taken_faults head.now around.now name at) }
+fn is_taken(head: &Head, around: &Around, name: Name) -> bool
+    ensures { result ≡ is_declared head.now.scope name || list_any (name_eq name) around.now.variables }
 {
-    let is_taken = head.scope.is_known(name) || is_variable(around.variables.as_slice(), name);
-    faults.note_if(is_taken, at, SourceCause::Twice(name))
+    head.scope.is_known(name) || is_variable(around.variables.as_slice(), name)
 }
 
 impl Walk {
     fn push_statement(&mut self, statement: CheckedStatement) -> Result<(), Memory>
         ensures { OnOk result (self.new ≡ with_statement self.old statement) }
     {
-        match self.statements.push(statement) {
-            Ok(()) => Ok(()),
-            Err(_) => Err(Memory),
-        }
+        self.statements.push(statement)?;
+        Ok(())
     }
 }
 
@@ -131,46 +103,32 @@ fn own_of(head: &Head, array: u32, entry: Option<ArrayEntry>) -> Option<u32>
 fn decomposition_meant(head: &Head, known: Option<Known>) -> Option<u32>
     ensures { result ≡ meant_decomposition head.now known }
 {
-    match known {
-        None => None,
-        Some(known) => match known.meaning {
-            Meaning::Constant(_) => None,
-            Meaning::Array(array) => own_of(head, array, entry_at(head, array)),
-            Meaning::Decomposition(decomposition) => Some(decomposition),
-        },
+    match known?.meaning {
+        Meaning::Constant(_) => None,
+        Meaning::Array(array) => own_of(head, array, entry_at(head, array)),
+        Meaning::Decomposition(decomposition) => Some(decomposition),
     }
 }
 
 fn extent_of_array(entry: Option<ArrayEntry>) -> Option<u64>
     ensures { result ≡ array_extent entry }
 {
-    match entry {
-        None => None,
-        Some(entry) => entry.extent,
-    }
+    entry?.extent
 }
 
 fn extent_of_layout(layouts: &[LayoutEntry], number: u32) -> Option<u64>
-    ensures { result ≡ layout_extent layouts.now (Some number) }
+    ensures { result ≡ entry_extent_of layouts.now (Some number) }
 {
-    match layouts.get(number as usize) {
-        Some(entry) => entry.extent,
-        None => None,
-    }
+    layouts.get(number as usize)?.extent
 }
 
 fn extent_meant(head: &Head, known: Option<Known>) -> Option<u64>
     ensures { result ≡ meant_extent head.now known }
 {
-    match known {
-        None => None,
-        Some(known) => match known.meaning {
-            Meaning::Constant(_) => None,
-            Meaning::Array(array) => extent_of_array(entry_at(head, array)),
-            Meaning::Decomposition(number) => {
-                extent_of_layout(head.scope.layouts.as_slice(), number)
-            }
-        },
+    match known?.meaning {
+        Meaning::Constant(_) => None,
+        Meaning::Array(array) => extent_of_array(entry_at(head, array)),
+        Meaning::Decomposition(number) => extent_of_layout(head.scope.layouts.as_slice(), number),
     }
 }
 
@@ -280,7 +238,8 @@ fn note_do(
 ) -> Result<(), Memory>
     ensures noted { OnOk result (faults.new ≡ faults.old ++ do_faults head.now around.now variable variable_at low.now high.now) }
 {
-    note_taken(head, around, faults, variable, variable_at)?;
+    let is_taken = is_taken(head, around, variable);
+    faults.note_if(is_taken, variable_at, SourceCause::Twice(variable))?;
     note_scalar(head, around, faults, low)?;
     note_scalar(head, around, faults, high)
 }
@@ -300,11 +259,10 @@ fn add_do(
 {
     let low = resolve(alloc, head, around, low)?;
     let high = resolve(alloc, head, around, high)?;
-    let inner = Open {
+    walk.outer.push(Open {
         name: variable,
         left: inside,
-    };
-    push_open(&mut walk.outer, inner)?;
+    })?;
     walk.push_statement(CheckedStatement::Do {
         at,
         low,
@@ -316,10 +274,7 @@ fn add_do(
 fn copy_used(alloc: Global, used: &UsedStamps) -> Result<UsedStamps, Memory>
     ensures { IfOk result (λ u. u ≡ used.now) }
 {
-    match Items::from_slice(alloc, used.as_slice()) {
-        Ok(copy) => Ok(copy),
-        Err(_) => Err(Memory),
-    }
+    Ok(Items::from_slice(alloc, used.as_slice())?)
 }
 
 fn note_loop(
@@ -333,18 +288,10 @@ fn note_loop(
 {
     let is_full = MOST_LOOPS <= walk.sites.len();
     faults.note_if(is_full, all.at, SourceCause::TooManyLoops)?;
-    note_taken(head, around, faults, all.index, all.index_at)?;
+    let is_taken = is_taken(head, around, all.index);
+    faults.note_if(is_taken, all.index_at, SourceCause::Twice(all.index))?;
     note_scalar(head, around, faults, &all.low)?;
     note_scalar(head, around, faults, &all.high)
-}
-
-fn push_site(sites: &mut Sites, site: Site) -> Result<(), Memory>
-    ensures { OnOk result (sites.new ≡ sites.old ++ site ∷ []) }
-{
-    match sites.push(site) {
-        Ok(()) => Ok(()),
-        Err(_) => Err(Memory),
-    }
 }
 
 /// Adds a FORALL whose body is through.
@@ -365,19 +312,17 @@ fn add_site(
         references,
         terms,
         body,
-        targets: _,
-        stamped: _,
         used,
+        ..
     } = draft;
-    let site = Site {
+    walk.sites.push(Site {
         at: all.at,
         low,
         high,
         body,
         references,
         terms,
-    };
-    push_site(&mut walk.sites, site)?;
+    })?;
     walk.used = used;
     walk.push_statement(CheckedStatement::Forall(number))
 }
@@ -390,7 +335,7 @@ fn add_loop(
     faults: &mut Faults,
     all: &Loop,
 ) -> Result<(), Memory>
-    ensures walk { OnOk result (walk.new ≡ after_loop head.now around.now walk.old all.now) }
+    ensures walk { OnOk result (walk.new ≡ walked_loop head.now around.now walk.old all.now) }
     ensures noted { OnOk result (faults.new ≡ faults.old ++ loop_faults head.now around.now walk.old all.now) }
 {
     note_loop(head, around, walk, faults, all)?;
@@ -458,7 +403,7 @@ fn add_statement(
 }
 
 /// The next statement of a program, with its faults.
-pub fn step_over(
+pub(crate) fn step_over(
     alloc: Global,
     head: &Head,
     walk: &mut Walk,

@@ -11,7 +11,7 @@ use Rattle.fd_command.specs.Options.{Text, value_options, flags, source_name}
 use Rattle.fd_command.specs.Uses.{Said, option, other, Use, has, is_one_of, no_repeats, said, value_of}
 use Rattle.fd_command.specs.ClapCommand.{flag_text}
 use Rattle.fd_command.proofs.Rules.{flag_made, flag_rules, rules_by, same_text, self_text}
-use Rattle.fd_command.proofs.UseRows.{row_of, rows_by, at_no_row, id_by}
+use Rattle.fd_command.proofs.UseRows.{row_of, row_with, rows_by, at_no_row, id_by}
 use Rattle.fd_command.proofs.Steps.{has_append}
 use Rattle.fd_command.proofs.Simulation.{next_use, read, read_said, read_value}
 
@@ -21,13 +21,7 @@ abbrev row_found : Text → List Row → Option Row
 row_found id rows = find (λ r. bytes_eq r.id id) rows
 
 abbrev pub default_row : Text → Row
-default_row name = record {
-  id = name;
-  values = codes "false" ∷ [];
-  count = None;
-  source = Some DefaultValue;
-  reading = reading_by (flag_made name);
-}
+default_row name = row_with name (codes "false") DefaultValue (flag_made name)
 
 abbrev pub if_named : Text → Text → Row → Option Row
 if_named name id r = if bytes_eq name id then Some r else None
@@ -38,8 +32,7 @@ default_found [] id = None
 default_found (f ∷ fs) id = option_or (if_named f id (default_row f)) (default_found fs id)
 
 or_none : (o : Option Row) → option_or o None ≡ o
-or_none None = refl
-or_none (Some r) = refl
+or_none o = elim o as (λ p. option_or p None ≡ p) [ None ↦ refl | Some r ↦ refl ]
 
 or_or : (a b d : Option Row) → option_or (option_or a b) d ≡ option_or a (option_or b d)
 or_or None b d = refl

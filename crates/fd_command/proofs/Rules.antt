@@ -1,12 +1,12 @@
 -- The arguments as clap fills them in, and how it looks them up.
-use Rattle.std.proofs.Common.{◌≡◌, Bool, true, false, List, [], ◌∷◌, Option, Some, None, if◌then◌else◌, codes, refl, ap}
+use Rattle.std.proofs.Common.{◌≡◌, Bool, true, false, List, [], ◌∷◌, Option, Some, None, if◌then◌else◌, refl, ap}
 use Rattle.std.specs.Str.{bytes_eq}
 use Rattle.std.proofs.lemmas.Slice.Eq.{bytes_eq-Decides}
 use Rattle.clap.specs.Walk.{Rule, arg_by_id, arg_by_index, arg_by_long}
-use Rattle.clap.specs.Simple.{App, Shape, built, filled, new_shape, with_index}
+use Rattle.clap.specs.Simple.{App, Shape, built, filled, with_index}
 use Rattle.fd_command.specs.Options.{Text, value_options, flags, source_name}
 use Rattle.fd_command.specs.Uses.{is_one_of}
-use Rattle.fd_command.specs.ClapCommand.{value_rule, flag_rule, source_rule, the_app}
+use Rattle.fd_command.specs.ClapCommand.{new_command, value_rule, flag_rule, source_rule, the_app}
 
 abbrev pub value_made : Text → Rule
 value_made name = filled (value_rule name)
@@ -27,14 +27,7 @@ rules_by [] fs = flag_rules fs
 rules_by (v ∷ vs) fs = value_made v ∷ rules_by vs fs
 
 abbrev pub shape_by : List Rule → Shape
-shape_by rules = record (new_shape (codes "chaosplay")) {
-  rules = rules;
-  no_binary_name = true;
-  disable_help_flag = true;
-  disable_help_subcommand = true;
-  disable_version_flag = true;
-  is_built = true;
-}
+shape_by rules = record new_command.top { rules = rules; disable_help_subcommand = true; is_built = true }
 
 abbrev pub app_by : List Rule → App
 app_by rules = record { top = shape_by rules; subs = [] }

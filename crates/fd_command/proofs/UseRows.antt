@@ -2,32 +2,31 @@
 use Rattle.std.proofs.Common.{◌≡◌, ◌∙◌, ◌&&◌, ◌++◌, append-nil, Bool, true, false, List, [], ◌∷◌, Option, Some, None, if◌then◌else◌, codes}
 use Rattle.std.proofs.Common.{refl, ap, sym}
 use Rattle.std.specs.Str.{bytes_eq}
-use Rattle.clap.specs.Walk.{Row, at_row, more_values, has_row, reading_by, without, used}
+use Rattle.clap.specs.Walk.{Row, Rule, at_row, more_values, has_row, reading_by, without, used}
 use Rattle.clap.specs.Faults.{use_fault}
 use Rattle.clap.specs.declared.error.kind.ErrorKind.TheVariants as kind
 use Rattle.clap.specs.Kinds.{Kinds, or_else}
+use Rattle.clap.specs.declared.parser.matches.ValueSource.{ValueSource}
 use Rattle.clap.specs.declared.parser.matches.ValueSource.TheVariants.{CommandLine}
 use Rattle.fd_command.specs.Options.{Text, source_name}
 use Rattle.fd_command.specs.Uses.{Use, has}
 use Rattle.fd_command.proofs.Rules.{value_made, flag_made, source_made}
 
-abbrev pub value_row : Text → Text → Row
-value_row name value = record {
+-- the row of an argument with one value
+abbrev pub row_with : Text → Text → ValueSource → Rule → Row
+row_with name value source rule = record {
   id = name;
   values = value ∷ [];
   count = None;
-  source = Some CommandLine;
-  reading = reading_by (value_made name);
+  source = Some source;
+  reading = reading_by rule;
 }
 
+abbrev pub value_row : Text → Text → Row
+value_row name value = row_with name value CommandLine (value_made name)
+
 abbrev pub flag_row : Text → Row
-flag_row name = record {
-  id = name;
-  values = codes "true" ∷ [];
-  count = None;
-  source = Some CommandLine;
-  reading = reading_by (flag_made name);
-}
+flag_row name = row_with name (codes "true") CommandLine (flag_made name)
 
 abbrev pub row_by : Text → Option Text → Row
 row_by name (Some value) = value_row name value

@@ -8,12 +8,11 @@ use clap::error::ErrorKind;
 use clap::{Arg, ArgAction, ArgMatches, Command};
 use std::alloc::{AllocError, Global};
 
+/// A command with one argument more, where there is memory.
+type More<'a> = Result<Command<'a>, AllocError>;
+
 /// Adds an option with one value.
-fn with_value<'a>(
-    alloc: Global,
-    command: Command<'a>,
-    name: &'a str,
-) -> Result<Command<'a>, AllocError>
+fn with_value<'a>(alloc: Global, command: Command<'a>, name: &'a str) -> More<'a>
     ensures { IfOk result (λ c. app_of c ≡ with_rule (app_of command.entry) (value_rule name.entry.now)) }
 {
     let arg = Arg::new(alloc, name).long(name).action(ArgAction::Set);
@@ -21,11 +20,7 @@ fn with_value<'a>(
 }
 
 /// Adds an option without a value.
-fn with_flag<'a>(
-    alloc: Global,
-    command: Command<'a>,
-    name: &'a str,
-) -> Result<Command<'a>, AllocError>
+fn with_flag<'a>(alloc: Global, command: Command<'a>, name: &'a str) -> More<'a>
     ensures { IfOk result (λ c. app_of c ≡ with_rule (app_of command.entry) (flag_rule name.entry.now)) }
 {
     let arg = Arg::new(alloc, name).long(name).action(ArgAction::SetTrue);
@@ -33,7 +28,7 @@ fn with_flag<'a>(
 }
 
 /// Adds the source.
-fn with_source<'a>(alloc: Global, command: Command<'a>) -> Result<Command<'a>, AllocError>
+fn with_source<'a>(alloc: Global, command: Command<'a>) -> More<'a>
     ensures { IfOk result (λ c. app_of c ≡ with_rule (app_of command.entry) source_rule) }
 {
     let arg = Arg::new(alloc, "source").action(ArgAction::Set);
@@ -51,7 +46,7 @@ fn bare_command<'a>(alloc: Global) -> Command<'a>
 }
 
 /// The command of the program.
-fn command<'a>(alloc: Global) -> Result<Command<'a>, AllocError>
+fn command<'a>(alloc: Global) -> More<'a>
     ensures { IfOk result (λ c. app_of c ≡ the_app) }
 {
     let command = bare_command(alloc);

@@ -87,12 +87,10 @@ fn is_clear(word: &str) -> bool
 fn are_clear(words: &[String]) -> bool
     ensures { result ≡ list_all is_clear (map string_bytes words.now) }
 {
-    let mut rest = words;
-    while let Some((first, after)) = rest.split_first() {
-        if !is_clear(first.as_str()) {
+    for word in words {
+        if !is_clear(word.as_str()) {
             return false;
         }
-        rest = after;
     }
     true
 }

@@ -16,10 +16,7 @@ fn without_start(field: &[u8]) -> &[u8]
     ensures { result.now ≡ without_first_blanks field.now }
 {
     let mut rest = field;
-    while let Some((first, after)) = rest.split_first() {
-        if *first != b' ' && *first != b'\t' {
-            return rest;
-        }
+    while let [b' ' | b'\t', after @ ..] = rest {
         rest = after;
     }
     rest

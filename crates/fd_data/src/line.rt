@@ -7,21 +7,14 @@ use fd_words::{Bytes, Memory, Name, Numbers};
 use itoa::Buffer;
 use std::alloc::Global;
 
-/// Appends a blank and a number.
-fn append_number(text: &mut Bytes, value: i64) -> Result<(), Memory>
-    ensures { OnOk result (text.new ≡ text.old ++ 32 ∷ signed_decimal value) }
-{
-    let mut buffer = Buffer::new();
-    text.push(b' ')?;
-    text.append(buffer.format(value).as_bytes())
-}
-
 /// Appends numbers, each after a blank.
 fn append_numbers(text: &mut Bytes, values: &[i64]) -> Result<(), Memory>
     ensures { OnOk result (text.new ≡ text.old ++ flat_map (λ v. 32 ∷ signed_decimal v) values.now) }
 {
+    let mut buffer = Buffer::new();
     for value in values {
-        append_number(text, *value)?;
+        text.push(b' ')?;
+        text.append(buffer.format(*value).as_bytes())?;
     }
     Ok(())
 }

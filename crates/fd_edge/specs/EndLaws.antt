@@ -1,5 +1,5 @@
 -- Laws of ending: one end within another, and what an end says.
-use Rattle.std.specs.Prelude.{ℕ, ◌≡◌, List, Option}
+use Rattle.std.specs.Prelude.{ℕ, ◌≡◌, List, Option, Result, Ok, Err, OnErr, OnOk}
 use Rattle.std.proofs.Common.{refl, sym, ◌∙◌, inl, inr}
 use Rattle.fd_outside.specs.Causes.{Rose}
 use Rattle.fd_edge.specs.declared.ending.Stop.{Stop}
@@ -87,3 +87,14 @@ pub ended_whole : {A : Type 0} (Comes : Outcome A → Type 0) (IsCut : A → A �
     → (o : Outcome A) × (Comes o × IsWhole o result old new)
 ended_whole Comes IsCut result old new memory sink (inr m) = absurd (memory m.status)
 ended_whole Comes IsCut result old new memory sink (inl e) = (e.0, (e.1.0, whole_by e.0 result old new (λ f. sink f.0) e.1.1))
+
+-- ---- answers of calls that may fail
+
+-- whatever the answer
+pub always : {X E P : Type 0} (result : Result X E) → P → OnErr result P
+always (Ok x) p = tt
+always (Err e) p = p
+
+pub ok_holds : {X E P : Type 0} (result : Result X E) → P → OnOk result P
+ok_holds (Ok x) p = p
+ok_holds (Err e) p = tt

@@ -3,3 +3,5 @@ pub mod Files
 pub mod Lines
 pub mod Endings
 pub mod EndLaws
+pub mod Unusable
+pub mod Comes

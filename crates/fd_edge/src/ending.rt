@@ -1,4 +1,4 @@
-ghost use Rattle.std.specs.Prelude.{◌≡◌, ◌≤◌};
+ghost use Rattle.std.specs.Prelude.{◌≡◌, ◌≤◌, MatchResult};
 ghost use Rattle.fd_edge.specs.Lines.{unread_line};
 ghost use Rattle.fd_edge.specs.Endings.{IsLine, IsStopped, IsWritten, stop_of};
 
@@ -56,5 +56,18 @@ pub fn end_stop<S: Sink>(out: &mut S, stop: Stop) -> u8
     match stop {
         Stop::Line { status, line } => end(out, status, line.as_slice()),
         Stop::Memory => 70,
+    }
+}
+
+/// Writes the text of a run and answers 0; 70 where memory was wanting for it.
+pub fn end_run<S: Sink>(out: &mut S, run: Result<Bytes, Memory>) -> u8
+    ensures ends { MatchResult run
+        (λ text. IsWritten 0 text result (S.faults out.old) (S.faults out.new) (S.written out.old) (S.written out.new))
+        (λ memory. (result ≡ 70) × (S.written out.new ≡ S.written out.old)) }
+    ensures later { S.faults out.old ≤ S.faults out.new }
+{
+    match run {
+        Ok(text) => end(out, 0, text.as_slice()),
+        Err(Memory) => 70,
     }
 }

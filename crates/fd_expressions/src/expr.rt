@@ -5,6 +5,7 @@ ghost use Rattle.fd_grammar.specs.Machine.{Then, AfterName, ExprFactor, ExprTerm
 
 use crate::parser::Parser;
 use crate::stop::Stop;
+use crate::while_some;
 use fd_grammar::{Mark, Sort, opens, sign_of, sort_of, times_of};
 use fd_syntax::Expr;
 use fd_words::{Arith, Name, SourcePlace};
@@ -21,14 +22,10 @@ impl Parser<'_> {
         let minus = self.lead();
         let first = self.expr_term(index)?;
         let mut left = self.signed_expr(minus, first)?;
-        while let [token, rest @ ..] = self.rest {
-            let Some(op) = sign_of(sort_of(token.kind)) else {
-                break;
-            };
-            self.rest = rest;
+        while_some!(self, token, sign_of, op => {
             let right = self.expr_term(index)?;
             left = self.binary_expr(op, left, right)?;
-        }
+        });
         Ok(left)
     }
 
@@ -57,14 +54,10 @@ impl Parser<'_> {
         ensures reads { Reads (ExprTerm index) (λ x k. Then (k x)) self.old.rest.now self.new.rest.now result }
     {
         let mut left = self.expr_factor(index)?;
-        while let [token, rest @ ..] = self.rest {
-            let Some(op) = times_of(sort_of(token.kind)) else {
-                break;
-            };
-            self.rest = rest;
+        while_some!(self, token, times_of, op => {
             let right = self.expr_factor(index)?;
             left = self.binary_expr(op, left, right)?;
-        }
+        });
         Ok(left)
     }
 

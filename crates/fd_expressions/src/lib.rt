@@ -6,6 +6,7 @@ mod parser;
 mod scalar;
 mod stop;
 mod subscript;
+mod take;
 
 pub use parser::Parser;
 pub use stop::Stop;

@@ -3,6 +3,7 @@ ghost use Rattle.fd_expressions.specs.Reads.{Reads};
 ghost use Rattle.fd_grammar.specs.Machine.{State, wanted, Take, AnyName, SameName};
 
 use crate::stop::Stop;
+use crate::take::take_if;
 use fd_grammar::{Fixed, Mark, is_word, name_of, sort_of};
 use fd_lexer::Token;
 use fd_syntax::Listed;
@@ -22,13 +23,7 @@ impl Parser<'_> {
         ensures shrinks { length self.new.rest.now ≤ length self.old.rest.now }
         ensures reads { Reads (wanted mark) (λ _ s. s) self.old.rest.now self.new.rest.now result }
     {
-        match self.rest {
-            [token, rest @ ..] if mark.is(sort_of(token.kind)) => {
-                self.rest = rest;
-                Ok(())
-            }
-            _ => Err(Stop::Wrong),
-        }
+        take_if!(self, token, mark.is(sort_of(token.kind)))
     }
 
     /// This word, sign or number alone.
@@ -36,13 +31,7 @@ impl Parser<'_> {
         ensures shrinks { length self.new.rest.now ≤ length self.old.rest.now }
         ensures reads { Reads (Take fixed) (λ _ s. s) self.old.rest.now self.new.rest.now result }
     {
-        match self.rest {
-            [token, rest @ ..] if fixed.is(sort_of(token.kind)) => {
-                self.rest = rest;
-                Ok(())
-            }
-            _ => Err(Stop::Wrong),
-        }
+        take_if!(self, token, fixed.is(sort_of(token.kind)))
     }
 
     /// Any name, with its place.
@@ -65,12 +54,6 @@ impl Parser<'_> {
         ensures shrinks { length self.new.rest.now ≤ length self.old.rest.now }
         ensures reads { Reads (SameName name) (λ _ s. s) self.old.rest.now self.new.rest.now result }
     {
-        match self.rest {
-            [token, rest @ ..] if is_word(token.kind, name) => {
-                self.rest = rest;
-                Ok(())
-            }
-            _ => Err(Stop::Wrong),
-        }
+        take_if!(self, token, is_word(token.kind, name))
     }
 }

@@ -8,11 +8,24 @@ ghost use Rattle.fd_grammar.specs.Machine.{WholeExpr, SignedExpr, MoreScalarFact
 
 use crate::parser::Parser;
 use crate::stop::Stop;
+use crate::while_some;
 use fd_grammar::{Mark, Sort, sign_of, sort_of, times_of};
 use fd_syntax::Scalar;
 use fd_words::{Arith, SourcePlace};
 use sqlite_items::Boxed;
 use std::alloc::AllocError;
+
+/// Goes on behind a first operand with operators and their operands.
+macro_rules! operators {
+    ($parser:ident, $first:ident, $operator_of:ident, $operand:ident) => {{
+        let mut left = $first;
+        while_some!($parser, token, $operator_of, op => {
+            let right = $parser.$operand()?;
+            left = $parser.binary(op, token.at, left, right)?;
+        });
+        Ok(left)
+    }};
+}
 
 impl Parser<'_> {
     #[cycle(scalar)]
@@ -25,24 +38,6 @@ impl Parser<'_> {
         let left = self.signed(minus, first)?;
         let all = self.more_scalar_terms(left)?;
         Ok(all)
-    }
-
-    /// Goes on behind terms.
-    #[cycle(scalar)]
-    pub(crate) fn more_scalar_terms(&mut self, first: Scalar) -> Result<Scalar, Stop>
-        ensures shrinks { length self.new.rest.now ≤ length self.old.rest.now }
-        ensures reads { Reads (λ k. Then (MoreScalarTerms first k)) (λ x k. Then (k x)) self.old.rest.now self.new.rest.now result }
-    {
-        let mut left = first;
-        while let [token, rest @ ..] = self.rest {
-            let Some(op) = sign_of(sort_of(token.kind)) else {
-                break;
-            };
-            self.rest = rest;
-            let right = self.scalar_term()?;
-            left = self.binary(op, token.at, left, right)?;
-        }
-        Ok(left)
     }
 
     /// Takes a leading sign, and tells where a minus was.
@@ -107,24 +102,6 @@ impl Parser<'_> {
         Ok(all)
     }
 
-    /// Goes on behind factors.
-    #[cycle(scalar)]
-    pub(crate) fn more_scalar_factors(&mut self, first: Scalar) -> Result<Scalar, Stop>
-        ensures shrinks { length self.new.rest.now ≤ length self.old.rest.now }
-        ensures reads { Reads (λ k. Then (MoreScalarFactors first k)) (λ x k. Then (k x)) self.old.rest.now self.new.rest.now result }
-    {
-        let mut left = first;
-        while let [token, rest @ ..] = self.rest {
-            let Some(op) = times_of(sort_of(token.kind)) else {
-                break;
-            };
-            self.rest = rest;
-            let right = self.scalar_factor()?;
-            left = self.binary(op, token.at, left, right)?;
-        }
-        Ok(left)
-    }
-
     #[cycle(scalar)]
     fn scalar_factor(&mut self) -> Result<Scalar, Stop>
         ensures shrinks { length self.new.rest.now ≤ length self.old.rest.now }
@@ -153,6 +130,24 @@ impl Parser<'_> {
             }
             _ => Err(Stop::Wrong),
         }
+    }
+
+    /// Goes on behind terms.
+    #[cycle(scalar)]
+    pub(crate) fn more_scalar_terms(&mut self, first: Scalar) -> Result<Scalar, Stop>
+        ensures shrinks { length self.new.rest.now ≤ length self.old.rest.now }
+        ensures reads { Reads (λ k. Then (MoreScalarTerms first k)) (λ x k. Then (k x)) self.old.rest.now self.new.rest.now result }
+    {
+        operators!(self, first, sign_of, scalar_term)
+    }
+
+    /// Goes on behind factors.
+    #[cycle(scalar)]
+    pub(crate) fn more_scalar_factors(&mut self, first: Scalar) -> Result<Scalar, Stop>
+        ensures shrinks { length self.new.rest.now ≤ length self.old.rest.now }
+        ensures reads { Reads (λ k. Then (MoreScalarFactors first k)) (λ x k. Then (k x)) self.old.rest.now self.new.rest.now result }
+    {
+        operators!(self, first, times_of, scalar_factor)
     }
 
     /// A scalar, and the place of its first token.

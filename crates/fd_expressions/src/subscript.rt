@@ -8,6 +8,7 @@ ghost use Rattle.fd_grammar.specs.Machine.{Calm, run, Then, InSubscript, AfterSu
 
 use crate::parser::Parser;
 use crate::stop::Stop;
+use crate::while_some;
 use fd_grammar::{Mark, is_word, name_of, opens, sign_of, sort_of};
 use fd_syntax::{Element, Scalar, Subscript, Term, Terms};
 use fd_words::{Arith, Name, SourcePlace};
@@ -28,14 +29,10 @@ impl Parser<'_> {
         ensures reads { Reads (λ k. Then (Offset k)) (λ x k. Then (k x)) self.old.rest.now self.new.rest.now result }
     {
         let mut terms = Items::new(self.alloc);
-        while let [token, rest @ ..] = self.rest {
-            let Some(op) = sign_of(sort_of(token.kind)) else {
-                break;
-            };
-            self.rest = rest;
+        while_some!(self, token, sign_of, op => {
             let scalar = self.scalar_term()?;
             terms.push(term(op, token.at, scalar))?;
-        }
+        });
         Ok(terms)
     }
 

@@ -9,7 +9,7 @@ use Rattle.fd_syntax.specs.declared.statement.BodyStatement.{BodyStatement}
 use Rattle.fd_syntax.specs.declared.statement.Statement.{Statement}
 use Rattle.fd_grammar.specs.Grammar.{AreInner, last_inner, more_inner, IsForall, forall_loop, IsDistribute, distribute, IsHead, no_head}
 use Rattle.fd_grammar.specs.Grammar.{declared, distributed, IsBody, no_body, more_body, IsStatement, distribution, printed, do_loop, ranged}
-use Rattle.fd_grammar.specs.Grammar.{HasTokens, program}
+use Rattle.fd_grammar.specs.Grammar.{IsWrittenAs, program}
 use Rattle.fd_checks.specs.Filled.{IsFilled, AreFilled}
 
 inner_some : {index : List ℕ} {ts : List Token} {ss : List BodyStatement} → AreInner index ts ss → 1 ≤ length ss
@@ -38,6 +38,6 @@ head_filled no_head = All-nil IsFilled
 head_filled (declared d l e ls h) = head_filled h
 head_filled (distributed {s = s} {ss = ss} d l e ls h) = All-cons IsFilled s ss (distribute_filled d) (head_filled h)
 
-pub program_filled : {p : Program} {ts : List Token} → HasTokens p ts → AreFilled p
+pub program_filled : {p : Program} {ts : List Token} → IsWrittenAs p ts → AreFilled p
 program_filled (program {ss = ss} {xs = xs} before p n l e ep en el ls h b ew after) = All-append IsFilled ss xs (head_filled h)
     (body_filled b)

@@ -11,7 +11,7 @@ use Rattle.fd_parser.specs.Answer as parsed
 use Rattle.fd_program.specs.declared.checked.Checked.{Checked}
 use Rattle.fd_checks.specs.Walks.{IsAnswer}
 use Rattle.fd_trace.specs.Way.{IsUnrolled}
-use Rattle.fd_front.specs.Sources.{IsSpelled, IsParsed, IsResolved, IsRead, in_tokens, in_grammar, in_program, in_steps, in_names}
+use Rattle.fd_front.specs.Sources.{IsSpelled, IsParsed, IsResolved, IsReadAs, in_tokens, in_grammar, in_program, in_steps, in_names}
 use Rattle.fd_front.specs.Sources.{on_the_way}
 
 pub by_tokens : (text : List ℕ) (s : SourceStop) → IsLexed text (Err s) → IsParsed text (Err s)
@@ -32,12 +32,12 @@ pub by_steps : (program : Program) (checked : Checked) (s : SourceStop) → IsAn
 by_steps program checked (stop.Fault fault) is steps = on_the_way fault checked is steps
 by_steps program checked stop.Memory is steps = tt
 
-pub by_parse : (text : List ℕ) (s : SourceStop) → IsParsed text (Err s) → IsRead text (Err s)
+pub by_parse : (text : List ℕ) (s : SourceStop) → IsParsed text (Err s) → IsReadAs text (Err s)
 by_parse text (stop.Fault fault) is = is
 by_parse text stop.Memory is = tt
 
 pub by_program : (text : List ℕ) (list : TokenList) (program : Program) (s : SourceStop) → IsSpelled text list program
-    → IsResolved program (Err s) → IsRead text (Err s)
+    → IsResolved program (Err s) → IsReadAs text (Err s)
 by_program text list program (stop.Fault fault) spelled (in_names fault-1 is) = in_program fault list program spelled is
 by_program text list program (stop.Fault fault) spelled (on_the_way fault-1 checked is steps) =
     in_steps fault list program checked spelled is steps

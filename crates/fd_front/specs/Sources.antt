@@ -44,10 +44,10 @@ pub data IsSourceFault (text : List ℕ) : SourceFault → Type 0 where
       → IsUnrolled checked (Err (stop.Fault fault)) → IsSourceFault text fault
 
 -- the source that the text is, or its first fault; want of memory alone is free
-abbrev pub IsRead : List ℕ → Result Source SourceStop → Type 0
-IsRead text (Ok s) = IsSource text s
-IsRead text (Err (stop.Fault fault)) = IsSourceFault text fault
-IsRead text (Err stop.Memory) = Unit {0}
+abbrev pub IsReadAs : List ℕ → Result Source SourceStop → Type 0
+IsReadAs text (Ok s) = IsSource text s
+IsReadAs text (Err (stop.Fault fault)) = IsSourceFault text fault
+IsReadAs text (Err stop.Memory) = Unit {0}
 
 -- ---- its two halves
 

@@ -1,5 +1,5 @@
 ghost use Rattle.std.specs.Prelude.{◌≡◌, ◌≤◌, length};
-ghost use Rattle.fd_front.specs.Sources.{IsParsed, IsResolved, IsRead};
+ghost use Rattle.fd_front.specs.Sources.{IsParsed, IsResolved, IsReadAs};
 
 use fd_checks::check;
 use fd_lexer::{TokenList, tokens};
@@ -25,35 +25,25 @@ fn parsed(alloc: Global, text: &[u8]) -> Result<(TokenList, Program), SourceStop
     requires { length text.now ≤ 1048576 }
     ensures { IsParsed text.now result }
 {
-    let tokens = match tokens(alloc, text) {
-        Ok(tokens) => tokens,
-        Err(stop) => return Err(stop),
-    };
-    match parse(alloc, &tokens) {
-        Ok(program) => Ok((tokens, program)),
-        Err(stop) => Err(stop),
-    }
+    let tokens = tokens(alloc, text)?;
+    let program = parse(alloc, &tokens)?;
+    Ok((tokens, program))
 }
 
 /// The checked program and its steps.
 fn resolved(alloc: Global, program: &Program) -> Result<(Checked, Trace), SourceStop>
     ensures { IsResolved program.now result }
 {
-    let checked = match check(alloc, program) {
-        Ok(checked) => checked,
-        Err(stop) => return Err(stop),
-    };
-    match unroll(alloc, &checked) {
-        Ok(trace) => Ok((checked, trace)),
-        Err(stop) => Err(stop),
-    }
+    let checked = check(alloc, program)?;
+    let trace = unroll(alloc, &checked)?;
+    Ok((checked, trace))
 }
 
 /// Reads the text of a source: its tokens, the program that they spell, that program checked, and its steps. The
 /// answer to a text that isn't accepted is its first fault: the first pass that has one counts.
 pub fn read_source(alloc: Global, text: &[u8]) -> Result<Source, SourceStop>
     requires { length text.now ≤ 1048576 }
-    ensures { IsRead text.now result }
+    ensures { IsReadAs text.now result }
 {
     let (tokens, program) = match parsed(alloc, text) {
         Ok(found) => found,

@@ -23,7 +23,7 @@ use Rattle.fd_grammar.specs.declared.sort.Sort.{Sort}
 use Rattle.fd_grammar.specs.declared.sort.Sort.TheVariants as sort
 use Rattle.fd_grammar.specs.declared.mark.Mark.TheVariants as mark
 use Rattle.fd_grammar.specs.declared.mark.Fixed.TheVariants as fixed
-use Rattle.fd_grammar.specs.Sorts.{sort_of, sign_of, times_of}
+use Rattle.fd_grammar.specs.Sorts.{sort_of, sign_by, times_of}
 use Rattle.fd_grammar.specs.Machine.{Closer, EndOfProgram, EndOfDo, Item, ParameterItem, SizedItem, ListedItem, AlignedItem, Value, State}
 use Rattle.fd_grammar.specs.Machine.{Calm, WholeScalar, PlacedScalar, WholeExpr, AnyName, SameName, Take, InForm, Operator, Head, Body}
 use Rattle.fd_grammar.specs.Machine.{FirstInner, MoreInner, Begin, Ended, Then, AfterCyclic, MoreItems, Want, wanted, Offset, element_of}
@@ -36,7 +36,7 @@ use Rattle.fd_grammar.specs.Grammar.{decompositions, aligns, reads, outputs, IsF
 use Rattle.fd_grammar.specs.Grammar.{distribute, IsHead, no_head, declared, distributed, IsOperator, adds, takes_min, takes_max, IsInner}
 use Rattle.fd_grammar.specs.Grammar.{assigned, reduced, AreInner, last_inner, more_inner, IsDoEnd, end_do_word, end_do, IsForallEnd}
 use Rattle.fd_grammar.specs.Grammar.{end_forall_word, end_forall, IsRange, range, IsForall, forall_loop, IsBody, no_body, more_body}
-use Rattle.fd_grammar.specs.Grammar.{IsStatement, distribution, printed, do_loop, ranged, HasTokens, program}
+use Rattle.fd_grammar.specs.Grammar.{IsStatement, distribution, printed, do_loop, ranged, IsWrittenAs, program}
 use Rattle.fd_grammar.specs.CompleteExpr.{go, go_again, no_sign, shift, reads_scalar, scalar_to, offset_to, reads_subscript, expr_to}
 
 -- the tokens of one thing in a list
@@ -47,7 +47,7 @@ IsItem ListedItem = IsListed
 IsItem (AlignedItem dummy) = IsAligned dummy
 
 reads_item : (i : Item) (ts : List Token) (x : Value i) → IsItem i ts x → (k : Value i → Calm) (r : Token) (rest : List Token)
-    → times_of (sort_of r.kind) ≡ None → sign_of (sort_of r.kind) ≡ None → run (ts ++ r ∷ rest) (InItem i k) ≡ run (r ∷ rest) (Then (k x))
+    → times_of (sort_of r.kind) ≡ None → sign_by (sort_of r.kind) ≡ None → run (ts ++ r ∷ rest) (InItem i k) ≡ run (r ∷ rest) (Then (k x))
 reads_item ParameterItem _ _ (parameter {ts = ts} {name = name} {x = x} n e en ee i) k r rest h g =
     let k' : Scalar → Calm = λ y. k (parameter_of (record { name = name; at = n.at }) y) in
     go n (e ∷ (ts ++ r ∷ rest)) (InItem ParameterItem k) (wanted mark.Equals (WholeScalar k')) (sort.Named name) en refl
@@ -72,18 +72,18 @@ reads_item (AlignedItem dummy) _ _ (aligned {name = name} n o d c en eo ed ec) k
     ∙ go c (r ∷ rest) (wanted mark.Close done) done sort.Close ec refl
 
 reads_items : (i : Item) {ts : List Token} {xs : List (Value i)} → AreListed (IsItem i) ts xs → (k : List (Value i) → State) (r : Token)
-    (rest : List Token) → times_of (sort_of r.kind) ≡ None → sign_of (sort_of r.kind) ≡ None → run (ts ++ r ∷ rest) (InItems i k)
+    (rest : List Token) → times_of (sort_of r.kind) ≡ None → sign_by (sort_of r.kind) ≡ None → run (ts ++ r ∷ rest) (InItems i k)
     ≡ run (r ∷ rest) (Then (MoreItems i xs k))
 reads_items i (one_item {ts = ts} {x = x} a) k r rest h g = reads_item i ts x a (λ y. MoreItems i (y ∷ []) k) r rest h g
 reads_items i (more_items {us = us} {vs = vs} {xs = xs} {x = x} a c ec b) k r rest h g =
     let k' : Value i → Calm = λ y. MoreItems i (xs ++ y ∷ []) k in
-    ap (λ l. run l (InItems i k)) (shift us vs (r ∷ rest) c) ∙ reads_items i a k c (vs ++ r ∷ rest) (ap times_of ec) (ap sign_of ec)
+    ap (λ l. run l (InItems i k)) (shift us vs (r ∷ rest) c) ∙ reads_items i a k c (vs ++ r ∷ rest) (ap times_of ec) (ap sign_by ec)
     ∙ go c (vs ++ r ∷ rest) (Then (MoreItems i xs k)) (InItem i k') sort.Comma ec refl
     ∙ reads_item i vs x b k' r rest h g
 
 -- the arrays of an ALIGN: the first of them tells the dummy
 reads_aligned : {dummy : List ℕ} {ts : List Token} {xs : List Listed} → IsName dummy → AreListed (IsAligned dummy) ts xs
-    → (k : Declaration → State) (r : Token) (rest : List Token) → times_of (sort_of r.kind) ≡ None → sign_of (sort_of r.kind) ≡ None
+    → (k : Declaration → State) (r : Token) (rest : List Token) → times_of (sort_of r.kind) ≡ None → sign_by (sort_of r.kind) ≡ None
     → run (ts ++ r ∷ rest) (AlignRest k) ≡ run (r ∷ rest) (Then (MoreItems (AlignedItem dummy) xs (λ ys. AlignTarget dummy ys k)))
 reads_aligned {dummy} nd (one_item (aligned {name = name} n o d c en eo ed ec)) k r rest h g =
     let more : Listed → State = λ e. wanted mark.Close
@@ -96,15 +96,15 @@ reads_aligned {dummy} nd (one_item (aligned {name = name} n o d c en eo ed ec)) 
 reads_aligned {dummy} nd (more_items {us = us} {vs = vs} {xs = xs} {x = x} a c ec b) k r rest h g =
     let done : List Listed → State = λ ys. AlignTarget dummy ys k in
     let k' : Listed → Calm = λ y. MoreItems (AlignedItem dummy) (xs ++ y ∷ []) done in
-    ap (λ l. run l (AlignRest k)) (shift us vs (r ∷ rest) c) ∙ reads_aligned nd a k c (vs ++ r ∷ rest) (ap times_of ec) (ap sign_of ec)
+    ap (λ l. run l (AlignRest k)) (shift us vs (r ∷ rest) c) ∙ reads_aligned nd a k c (vs ++ r ∷ rest) (ap times_of ec) (ap sign_by ec)
     ∙ go c (vs ++ r ∷ rest) (Then (MoreItems (AlignedItem dummy) xs done)) (InItem (AlignedItem dummy) k') sort.Comma ec refl
     ∙ reads_item (AlignedItem dummy) vs x b k' r rest h g
 
 -- a list and the line end behind it
 items_to : (i : Item) {ts : List Token} {xs : List (Value i)} → AreListed (IsItem i) ts xs → (k : List (Value i) → State) (l : Token)
-    (rest : List Token) (c : Sort) → Is c l → times_of c ≡ None → sign_of c ≡ None → step (Then (MoreItems i xs k)) l.kind c l.at
+    (rest : List Token) (c : Sort) → Is c l → times_of c ≡ None → sign_by c ≡ None → step (Then (MoreItems i xs k)) l.kind c l.at
     ≡ Some (k xs) → run (ts ++ l ∷ rest) (InItems i k) ≡ run rest (k xs)
-items_to i {xs = xs} a k l rest c e h g w = reads_items i a k l rest (ap times_of e ∙ h) (ap sign_of e ∙ g)
+items_to i {xs = xs} a k l rest c e h g w = reads_items i a k l rest (ap times_of e ∙ h) (ap sign_by e ∙ g)
     ∙ go l rest (Then (MoreItems i xs k)) (k xs) c e w
 
 reads_declaration : {ts : List Token} {d : Declaration} → IsDeclaration ts d → (ds : List Declaration) (ss : List Statement)
@@ -138,7 +138,7 @@ reads_declaration (aligns {us = us} {vs = vs} {dummy = dummy} {target = target} 
     let whole : (us ++ w ∷ t ∷ o ∷ d ∷ (vs ++ c ∷ [])) ++ l ∷ rest ≡ us ++ w ∷ t ∷ o ∷ d ∷ first = simp append_assoc in
     ap (λ q. run (a ∷ q) (Head ds ss k)) whole
     ∙ go a (us ++ w ∷ t ∷ o ∷ d ∷ first) (Head ds ss k) (AlignRest next) sort.AlignWord ea refl
-    ∙ reads_aligned nd b next w (t ∷ o ∷ d ∷ first) (ap times_of ew) (ap sign_of ew)
+    ∙ reads_aligned nd b next w (t ∷ o ∷ d ∷ first) (ap times_of ew) (ap sign_by ew)
     ∙ go w (t ∷ o ∷ d ∷ first) (Then (MoreItems (AlignedItem dummy) xs (λ ys. AlignTarget dummy ys next))) (AlignTarget dummy xs next)
     sort.WithWord ew refl
     ∙ go t (o ∷ d ∷ first) (AlignTarget dummy xs next) (Take fixed.Open (SameName dummy offset)) (sort.Named target) et refl
@@ -451,7 +451,7 @@ body_behind (more_body {us = us} {ls = ls} {vs = vs} {xs = xs} {ys = ys} (do_loo
     ∙ ap (λ m. run rest (k ds m)) (append_assoc ss x ys)
 
 -- the machine comes to the program that has the tokens
-pub reads_program : {p : Program} {ts : List Token} → HasTokens p ts → run ts start ≡ Ok p
+pub reads_program : {p : Program} {ts : List Token} → IsWrittenAs p ts → run ts start ≡ Ok p
 reads_program (program {before = before} {ls = ls} {hs = hs} {bs = bs} {after = behind} {name = name} {ds = ds} {ss = ss} {xs = xs} lead p
     n l e ep en el are h b ee trail) =
     let last : Listed → List Declaration → List Statement

@@ -19,7 +19,7 @@ use Rattle.fd_grammar.specs.declared.sort.Sort.{Sort}
 use Rattle.fd_grammar.specs.declared.sort.Sort.TheVariants as sort
 use Rattle.fd_grammar.specs.declared.mark.Mark.{Mark}
 use Rattle.fd_grammar.specs.declared.mark.Mark.TheVariants as mark
-use Rattle.fd_grammar.specs.Sorts.{sort_of, is_word, name_of, sign_of, times_of, opens}
+use Rattle.fd_grammar.specs.Sorts.{sort_of, is_word, name_of, sign_by, times_of, opens}
 use Rattle.fd_grammar.specs.Machine.{State, Calm, ScalarFactor, WholeScalar, ExprFactor, WholeExpr, InSubscript, SameName, Then}
 use Rattle.fd_grammar.specs.Machine.{MoreScalarFactors, MoreScalarTerms, MoreExprFactors, MoreExprTerms, AfterName, AfterSubscriptName}
 use Rattle.fd_grammar.specs.Machine.{MoreOffset, Want, step_want, ScalarTerm, SignedScalar, step_scalar_factor, step_lead}
@@ -55,7 +55,7 @@ pub no_star : (t : Token) (ts : List Token) (x : Scalar) (k : Scalar → Calm) �
     → run (t ∷ ts) (Then (MoreScalarFactors x k)) ≡ run (t ∷ ts) (Then (k x))
 no_star t ts x k h = ap (λ o. after t ts (run ts) (step_scalar_factors x k t.at (step_calm (k x) (sort_of t.kind) t.at) o)) h
 
-pub no_sign : (t : Token) (ts : List Token) (x : Scalar) (k : Scalar → Calm) → sign_of (sort_of t.kind) ≡ None
+pub no_sign : (t : Token) (ts : List Token) (x : Scalar) (k : Scalar → Calm) → sign_by (sort_of t.kind) ≡ None
     → run (t ∷ ts) (Then (MoreScalarTerms x k)) ≡ run (t ∷ ts) (Then (k x))
 no_sign t ts x k h = ap (λ o. after t ts (run ts) (step_scalar_terms x k t.at (step_calm (k x) (sort_of t.kind) t.at) o)) h
 
@@ -74,12 +74,12 @@ shift us vs rest s = append_assoc us (s ∷ vs) rest
 
 -- what a term begins with
 abbrev Unsigned : List Token → Type 0
-Unsigned ts = (t : Token) × (us : List Token) × (ts ≡ t ∷ us) × (sign_of (sort_of t.kind) ≡ None)
+Unsigned ts = (t : Token) × (us : List Token) × (ts ≡ t ∷ us) × (sign_by (sort_of t.kind) ≡ None)
 
 scalar_factor_unsigned : {ts : List Token} {x : Scalar} → IsScalarFactor ts x → Unsigned ts
-scalar_factor_unsigned (scalar_number value t e) = (t, _, refl, ap sign_of e)
-scalar_factor_unsigned (scalar_name name t e) = (t, _, refl, ap sign_of e)
-scalar_factor_unsigned (scalar_inside o eo i c ec) = (o, _, refl, ap sign_of eo)
+scalar_factor_unsigned (scalar_number value t e) = (t, _, refl, ap sign_by e)
+scalar_factor_unsigned (scalar_name name t e) = (t, _, refl, ap sign_by e)
+scalar_factor_unsigned (scalar_inside o eo i c ec) = (o, _, refl, ap sign_by eo)
 
 scalar_term_unsigned : {ts : List Token} {x : Scalar} → IsScalarTerm ts x → Unsigned ts
 scalar_term_unsigned (scalar_factor i) = scalar_factor_unsigned i
@@ -261,10 +261,10 @@ reads_subscript {index} (scalar_subscript {ts = ts} {x = x} f nf i) k c rest ec 
     ∙ scalar_to i mark.Close (λ y. k (subscript.Scalar y)) c rest sort.Close ec refl refl
 
 expr_factor_unsigned : {index : List ℕ} {ts : List Token} {x : Expr} → IsExprFactor index ts x → Unsigned ts
-expr_factor_unsigned (expr_number value t e) = (t, _, refl, ap sign_of e)
-expr_factor_unsigned (expr_name name t e) = (t, _, refl, ap sign_of e)
-expr_factor_unsigned (expr_element (element n o c en eo i ec)) = (n, _, refl, ap sign_of en)
-expr_factor_unsigned (expr_inside o eo i c ec) = (o, _, refl, ap sign_of eo)
+expr_factor_unsigned (expr_number value t e) = (t, _, refl, ap sign_by e)
+expr_factor_unsigned (expr_name name t e) = (t, _, refl, ap sign_by e)
+expr_factor_unsigned (expr_element (element n o c en eo i ec)) = (n, _, refl, ap sign_by en)
+expr_factor_unsigned (expr_inside o eo i c ec) = (o, _, refl, ap sign_by eo)
 
 expr_term_unsigned : {index : List ℕ} {ts : List Token} {x : Expr} → IsExprTerm index ts x → Unsigned ts
 expr_term_unsigned (expr_factor i) = expr_factor_unsigned i

@@ -268,13 +268,13 @@ mutual
     ranged : {ts : List Token} {s : Statement} → IsForall ts s → IsStatement ts (s ∷ [])
 
 -- program = PROGRAM name NL head body END { line end }, behind any line ends: the program has these tokens
-pub data HasTokens : Program → List Token → Type 0 where
+pub data IsWrittenAs : Program → List Token → Type 0 where
   program : {before ls hs bs after : List Token} {name : List ℕ} {ds : List Declaration} {ss xs : List Statement} → AreLines before
       → (p n l e : Token)
       → Is ProgramWord p → Is (Named name) n → Is LineEnd l → AreLines ls → IsHead hs ds ss → IsBody bs xs → Is EndWord e → AreLines after
-      → HasTokens (record { name = name; declarations = ds; statements = ss ++ xs })
+      → IsWrittenAs (record { name = name; declarations = ds; statements = ss ++ xs })
       (before ++ p ∷ n ∷ l ∷ (ls ++ (hs ++ (bs ++ e ∷ after))))
 
 -- these tokens can begin a program
 abbrev pub CanBegin : List Token → Type 0
-CanBegin ts = (more : List Token) × (p : Program) × HasTokens p (ts ++ more)
+CanBegin ts = (more : List Token) × (p : Program) × IsWrittenAs p (ts ++ more)

@@ -1,10 +1,14 @@
 pub mod Sorts
 pub mod Machine
 pub mod Grammar
+pub mod TokenTests
+pub mod Fronts
 pub mod CompleteExpr
 pub mod Complete
 pub mod Viable
 pub mod Meaning
 pub mod SoundParts
+pub mod SoundItems
+pub mod SoundLines
 pub mod Sound
 pub mod Unambiguous

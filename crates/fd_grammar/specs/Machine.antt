@@ -36,16 +36,15 @@ use Rattle.fd_grammar.specs.declared.mark.Mark.TheVariants as mark
 use Rattle.fd_grammar.specs.declared.mark.Fixed.{Fixed}
 use Rattle.fd_grammar.specs.declared.mark.Fixed.TheVariants as fixed
 use Rattle.fd_grammar.specs.declared.opening.Heading.{Heading}
-use Rattle.fd_grammar.specs.declared.opening.Heading.TheVariants as heading
+use Rattle.fd_grammar.specs.declared.opening.Heading.TheVariants.{Blank, Parameters, Integers, Decompositions, Aligns, Reads, Outputs}
+use Rattle.fd_grammar.specs.declared.opening.Heading.TheVariants.{Distributes}
 use Rattle.fd_grammar.specs.declared.opening.Opening.{Opening}
 use Rattle.fd_grammar.specs.declared.opening.Opening.TheVariants as opening
 use Rattle.fd_grammar.specs.declared.opening.InnerOpening.{InnerOpening}
 use Rattle.fd_grammar.specs.declared.opening.InnerOpening.TheVariants as within
-use Rattle.fd_grammar.specs.Sorts.{sort_of, is_word, name_of, sign_of, times_of, opens}
-
--- what ends the statements of a program, a DO or a FORALL
-pub data Closer : Type 0 where
-  EndOfProgram EndOfDo EndOfForall : Closer
+pub use Rattle.fd_grammar.specs.declared.opening.Closer.{Closer}
+pub use Rattle.fd_grammar.specs.declared.opening.Closer.TheVariants.{EndOfProgram, EndOfDo, EndOfForall}
+use Rattle.fd_grammar.specs.Sorts.{sort_of, is_word, name_of, sign_by, times_of, opens}
 
 -- what a list with commas is of
 pub data Item : Type 0 where
@@ -151,7 +150,7 @@ step_lead k at next None = next
 
 abbrev pub step_whole_scalar : (Scalar → Calm) → Sort → SourcePlace → Option State
 step_whole_scalar k c at = step_lead (SignedScalar k) at (step_scalar_factor (λ x. MoreScalarFactors x (λ y. MoreScalarTerms y k)) c at)
-    (sign_of c)
+    (sign_by c)
 
 -- an operator goes on with the phrase; whatever else comes is for the next phrase
 abbrev pub step_scalar_factors : Scalar → (Scalar → Calm) → SourcePlace → Option State → Option Arith → Option State
@@ -333,13 +332,22 @@ ReduceTarget index op k = AnyName
 abbrev pub ReduceRest : (index : List ℕ) → (BodyStatement → State) → State
 ReduceRest index k = Take fixed.Open (Operator (λ op. wanted mark.Comma (ReduceTarget index op k)))
 
+-- what has to follow a word that ends statements, if anything
+abbrev pub closing_of : Closer → Sort → Option (Option Fixed)
+closing_of EndOfDo sort.EndDoWord = Some None
+closing_of EndOfDo sort.EndWord = Some (Some fixed.Do)
+closing_of EndOfForall sort.EndForallWord = Some None
+closing_of EndOfForall sort.EndWord = Some (Some fixed.Forall)
+closing_of EndOfProgram sort.EndWord = Some None
+closing_of _ _ = None
+
+abbrev pub step_closing : State → Option (Option Fixed) → Option State
+step_closing s (Some None) = Some s
+step_closing s (Some (Some f)) = Some (Take f s)
+step_closing s None = None
+
 abbrev pub step_close : Closer → State → Sort → Option State
-step_close EndOfProgram s sort.EndWord = Some s
-step_close EndOfDo s sort.EndDoWord = Some s
-step_close EndOfDo s sort.EndWord = Some (Take fixed.Do s)
-step_close EndOfForall s sort.EndForallWord = Some s
-step_close EndOfForall s sort.EndWord = Some (Take fixed.Forall s)
-step_close _ s _ = None
+step_close closer s c = step_closing s (closing_of closer c)
 
 abbrev pub inner_opening_of : Sort → Option InnerOpening
 inner_opening_of sort.LineEnd = Some within.Blank
@@ -355,13 +363,13 @@ step_inner index again k at next (Some (within.Assigns name)) = Some (AssignRest
 step_inner index again k at next (Some within.Reduces) = Some (ReduceRest index k)
 step_inner index again k at next None = next
 
-abbrev pub opening_of : Sort → Option Opening
-opening_of sort.LineEnd = Some opening.Blank
-opening_of sort.DistributeWord = Some opening.Distributes
-opening_of sort.PrintWord = Some opening.Prints
-opening_of sort.DoWord = Some opening.Repeats
-opening_of sort.ForallWord = Some opening.Ranges
-opening_of _ = None
+abbrev pub opening_by : Sort → Option Opening
+opening_by sort.LineEnd = Some opening.Blank
+opening_by sort.DistributeWord = Some opening.Distributes
+opening_by sort.PrintWord = Some opening.Prints
+opening_by sort.DoWord = Some opening.Repeats
+opening_by sort.ForallWord = Some opening.Ranges
+opening_by _ = None
 
 abbrev pub step_body : Closer → List Statement → (List Statement → State) → SourcePlace → Option State → Option Opening → Option State
 step_body c ss k at next (Some opening.Blank) = Some (Body c ss k)
@@ -372,26 +380,26 @@ step_body c ss k at next (Some opening.Ranges) = Some (ForallRest at (λ s. Body
 step_body c ss k at next None = next
 
 abbrev pub heading_of : Sort → Option Heading
-heading_of sort.LineEnd = Some heading.Blank
-heading_of sort.ParameterWord = Some heading.Parameters
-heading_of sort.IntegerWord = Some heading.Integers
-heading_of sort.DecompositionWord = Some heading.Decompositions
-heading_of sort.AlignWord = Some heading.Aligns
-heading_of sort.ReadWord = Some heading.Reads
-heading_of sort.OutputWord = Some heading.Outputs
-heading_of sort.DistributeWord = Some heading.Distributes
+heading_of sort.LineEnd = Some Blank
+heading_of sort.ParameterWord = Some Parameters
+heading_of sort.IntegerWord = Some Integers
+heading_of sort.DecompositionWord = Some Decompositions
+heading_of sort.AlignWord = Some Aligns
+heading_of sort.ReadWord = Some Reads
+heading_of sort.OutputWord = Some Outputs
+heading_of sort.DistributeWord = Some Distributes
 heading_of _ = None
 
 abbrev pub step_head : List Declaration → List Statement → (List Declaration → List Statement → State) → SourcePlace → Option State
     → Option Heading → Option State
-step_head ds ss k at next (Some heading.Blank) = Some (Head ds ss k)
-step_head ds ss k at next (Some heading.Parameters) = Some (ParameterRest (λ d. Head (ds ++ d ∷ []) ss k))
-step_head ds ss k at next (Some heading.Integers) = Some (IntegerRest (λ d. Head (ds ++ d ∷ []) ss k))
-step_head ds ss k at next (Some heading.Decompositions) = Some (DecompositionRest (λ d. Head (ds ++ d ∷ []) ss k))
-step_head ds ss k at next (Some heading.Aligns) = Some (AlignRest (λ d. Head (ds ++ d ∷ []) ss k))
-step_head ds ss k at next (Some heading.Reads) = Some (ReadRest (λ d. Head (ds ++ d ∷ []) ss k))
-step_head ds ss k at next (Some heading.Outputs) = Some (OutputRest (λ d. Head (ds ++ d ∷ []) ss k))
-step_head ds ss k at next (Some heading.Distributes) = Some (DistributeRest at (λ s. Head ds (ss ++ s ∷ []) k))
+step_head ds ss k at next (Some Blank) = Some (Head ds ss k)
+step_head ds ss k at next (Some Parameters) = Some (ParameterRest (λ d. Head (ds ++ d ∷ []) ss k))
+step_head ds ss k at next (Some Integers) = Some (IntegerRest (λ d. Head (ds ++ d ∷ []) ss k))
+step_head ds ss k at next (Some Decompositions) = Some (DecompositionRest (λ d. Head (ds ++ d ∷ []) ss k))
+step_head ds ss k at next (Some Aligns) = Some (AlignRest (λ d. Head (ds ++ d ∷ []) ss k))
+step_head ds ss k at next (Some Reads) = Some (ReadRest (λ d. Head (ds ++ d ∷ []) ss k))
+step_head ds ss k at next (Some Outputs) = Some (OutputRest (λ d. Head (ds ++ d ∷ []) ss k))
+step_head ds ss k at next (Some Distributes) = Some (DistributeRest at (λ s. Head ds (ss ++ s ∷ []) k))
 step_head ds ss k at next None = next
 
 abbrev pub step_begin : State → Sort → Option State
@@ -407,18 +415,18 @@ step_ended p _ = None
 
 abbrev pub step_calm : Calm → Sort → SourcePlace → Option State
 step_calm (MoreScalarFactors x k) c at = step_scalar_factors x k at (step_calm (k x) c at) (times_of c)
-step_calm (MoreScalarTerms x k) c at = step_scalar_terms x k at (step_calm (k x) c at) (sign_of c)
+step_calm (MoreScalarTerms x k) c at = step_scalar_terms x k at (step_calm (k x) c at) (sign_by c)
 step_calm (MoreExprFactors index x k) c at = step_expr_factors index x k (step_calm (k x) c at) (times_of c)
-step_calm (MoreExprTerms index x k) c at = step_expr_terms index x k (step_calm (k x) c at) (sign_of c)
+step_calm (MoreExprTerms index x k) c at = step_expr_terms index x k (step_calm (k x) c at) (sign_by c)
 step_calm (AfterName index name place k) c at = step_after_name index name place k (step_calm (k (expr.Named name place)) c at) (opens c)
 step_calm (AfterSubscriptName index name place k) c at =
     step_after_subscript_name index name place k
     (step_scalar_factors (scalar.Named name place) (λ y. MoreScalarTerms y (λ x. k (subscript.Scalar x))) at
     (step_scalar_terms (scalar.Named name place) (λ x. k (subscript.Scalar x)) at
-    (step_calm (k (subscript.Scalar (scalar.Named name place))) c at) (sign_of c))
+    (step_calm (k (subscript.Scalar (scalar.Named name place))) c at) (sign_by c))
     (times_of c))
     (opens c)
-step_calm (MoreOffset ts k) c at = step_offset ts k at (step_calm (k ts) c at) (sign_of c)
+step_calm (MoreOffset ts k) c at = step_offset ts k at (step_calm (k ts) c at) (sign_by c)
 step_calm (AfterCyclic k) c at = step_after_cyclic k (step_calm (k form.Cyclic) c at) (opens c)
 step_calm (MoreItems i xs k) c at = step_items i xs k (step_want (is_mark (mark_of i) c) (k xs)) (is_mark mark.Comma c)
 step_calm (Want m s) c at = step_want (is_mark m c) s
@@ -429,7 +437,7 @@ step (WholeScalar k) t c at = step_whole_scalar k c at
 step (PlacedScalar k) t c at = step_whole_scalar (k at) c at
 step (ExprFactor index k) t c at = step_expr_factor index k c at
 step (WholeExpr index k) t c at = step_lead (SignedExpr index k) at
-    (step_expr_factor index (λ x. MoreExprFactors index x (λ y. MoreExprTerms index y k)) c at) (sign_of c)
+    (step_expr_factor index (λ x. MoreExprFactors index x (λ y. MoreExprTerms index y k)) c at) (sign_by c)
 step (InSubscript index k) t c at = step_subscript index k at (step_whole_scalar (λ x. k (subscript.Scalar x)) c at) (is_word index t)
     (name_of c)
 step (AnyName k) t c at = step_name k at (name_of c)
@@ -438,8 +446,8 @@ step (Take f s) t c at = step_want (is_fixed f c) s
 step (InForm k) t c at = step_form k c at
 step (Operator k) t c at = step_operator k c
 step (Head ds ss k) t c at = step_head ds ss k at (step_body EndOfProgram ss (k ds) at (step_close EndOfProgram (k ds ss) c)
-    (opening_of c)) (heading_of c)
-step (Body closer ss k) t c at = step_body closer ss k at (step_close closer (k ss) c) (opening_of c)
+    (opening_by c)) (heading_of c)
+step (Body closer ss k) t c at = step_body closer ss k at (step_close closer (k ss) c) (opening_by c)
 step (Close closer s) t c at = step_close closer s c
 step (FirstInner index k) t c at = step_inner index (FirstInner index k) (λ s. MoreInner index (s ∷ []) k) at None (inner_opening_of c)
 step (MoreInner index xs k) t c at = step_inner index (MoreInner index xs k) (λ s. MoreInner index (xs ++ s ∷ []) k) at

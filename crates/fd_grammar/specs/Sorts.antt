@@ -46,10 +46,10 @@ abbrev pub name_of : Sort → Option (List ℕ)
 name_of (sort.Named name) = Some name
 name_of _ = None
 
-abbrev pub sign_of : Sort → Option Arith
-sign_of sort.Plus = Some Plus
-sign_of sort.Minus = Some Minus
-sign_of _ = None
+abbrev pub sign_by : Sort → Option Arith
+sign_by sort.Plus = Some Plus
+sign_by sort.Minus = Some Minus
+sign_by _ = None
 
 abbrev pub times_of : Sort → Option Arith
 times_of sort.Star = Some Times

@@ -1,6 +1,5 @@
 -- What the machine reads inside a line, the grammar spells: scalars, subscripts, expressions.
 use Rattle.std.proofs.Common.{◌≡◌, ℕ, Bool, true, false, List, [], ◌∷◌, ◌++◌, Option, Some, None, refl, ap, sym, ◌∙◌, subst, append_assoc}
-use Rattle.std.specs.Prelude.{if◌then◌else◌}
 use Rattle.fd_words.specs.declared.source.SourcePlace.{SourcePlace}
 use Rattle.fd_lexer.specs.declared.token.Token.{Token}
 use Rattle.fd_words.specs.declared.arith.Arith.{Arith}
@@ -16,7 +15,7 @@ use Rattle.fd_syntax.specs.declared.expr.Expr.TheVariants as expr
 use Rattle.fd_syntax.specs.declared.program.Program.{Program}
 use Rattle.fd_grammar.specs.declared.sort.Sort.{Sort}
 use Rattle.fd_grammar.specs.declared.sort.Sort.TheVariants as sort
-use Rattle.fd_grammar.specs.Sorts.{sort_of, is_word, name_of, sign_of, times_of, opens}
+use Rattle.fd_grammar.specs.Sorts.{sort_of, is_word, name_of, sign_by, times_of, opens}
 use Rattle.fd_grammar.specs.Machine.{State, Calm, ScalarFactor, WholeScalar, ExprFactor, WholeExpr, InSubscript, MoreScalarFactors}
 use Rattle.fd_grammar.specs.Machine.{MoreScalarTerms, MoreExprFactors, MoreExprTerms, AfterName, AfterSubscriptName, MoreOffset, ScalarTerm}
 use Rattle.fd_grammar.specs.Machine.{SignedScalar, step_scalar_factor, step_lead, step_whole_scalar, step_scalar_factors, step_scalar_terms}
@@ -28,40 +27,18 @@ use Rattle.fd_grammar.specs.Grammar.{IsOffset, no_offset, offset_plus, offset_mi
 use Rattle.fd_grammar.specs.Grammar.{IsElement, element, IsExpr, expr_term, expr_signed_plus, expr_signed_minus, expr_plus, expr_minus}
 use Rattle.fd_grammar.specs.Grammar.{IsExprTerm, expr_factor, expr_times, IsExprFactor, expr_number, expr_name, expr_element, expr_inside}
 use Rattle.fd_grammar.specs.CompleteExpr.{again, word_again}
-use Rattle.fd_grammar.specs.Meaning.{opens_is, name_is, sign_is, no_times_sign, times_is, Front, FrontPlaced, NameRest, SubscriptRest}
-use Rattle.fd_grammar.specs.Meaning.{Means, MeansCalm, MeansNext, behind, two, both_of, stays}
+use Rattle.fd_grammar.specs.TokenTests.{opens_is, name_is, sign_is, no_times_sign, times_is}
+use Rattle.fd_grammar.specs.Fronts.{Front, FrontPlaced, stays, no_token, one_token, behind_tokens, closed_by, two_phrases, begun_with}
+use Rattle.fd_grammar.specs.Fronts.{goes_on_with}
+use Rattle.fd_grammar.specs.Meaning.{SubscriptRest, Means, MeansCalm, MeansNext}
 
 -- ---- scalars
 
 pub s_scalar_factor : (k : Scalar → Calm) (p : Program) (t : Token) (ts : List Token) (c : Sort) → Is c t
     → MeansNext (step_scalar_factor k c t.at) p ts → Means (ScalarFactor k) p (t ∷ ts)
-s_scalar_factor k p t ts (sort.Numbered n) e m = record {
-  front = t ∷ [];
-  back = ts;
-  value = scalar.Number n t.at;
-  split = refl;
-  is = scalar_number n t e;
-  goes_on = m;
-}
-s_scalar_factor k p t ts (sort.Named n) e m = record {
-  front = t ∷ [];
-  back = ts;
-  value = scalar.Named n t.at;
-  split = refl;
-  is = scalar_name n t e;
-  goes_on = m;
-}
-s_scalar_factor k p t ts sort.Open e m =
-    let w = m.goes_on in
-    record {
-      front = t ∷ (m.front ++ w.token ∷ []);
-      back = w.back;
-      value = m.value;
-      split = behind t w.token ts m.front m.back w.back
-          m.split w.split;
-      is = scalar_inside t e m.is w.token w.is;
-      goes_on = w.goes_on;
-    }
+s_scalar_factor k p t ts (sort.Numbered n) e m = one_token (scalar.Number n t.at) t ts (scalar_number n t e) m
+s_scalar_factor k p t ts (sort.Named n) e m = one_token (scalar.Named n t.at) t ts (scalar_name n t e) m
+s_scalar_factor k p t ts sort.Open e m = closed_by (λ x. x) (t ∷ []) m λ us x c i g. scalar_inside t e i c g
 s_scalar_factor k p t ts _ e m = absurd m
 
 pub add_factor : (us vs : List Token) (x y : Scalar) (s : Token) (op : Arith) → times_of (sort_of s.kind) ≡ Some op → IsScalarTerm us x
@@ -70,7 +47,7 @@ add_factor us vs x y s op h a b =
     let e = times_is (sort_of s.kind) op h in
     subst (λ o. IsScalarTerm (us ++ s ∷ vs) (scalar.Binary o s.at x y)) e.1 (scalar_times a s e.0 b)
 
-pub add_term : (us vs : List Token) (x y : Scalar) (s : Token) (op : Arith) → sign_of (sort_of s.kind) ≡ Some op → IsScalar us x
+pub add_term : (us vs : List Token) (x y : Scalar) (s : Token) (op : Arith) → sign_by (sort_of s.kind) ≡ Some op → IsScalar us x
     → IsScalarTerm vs y → IsScalar (us ++ s ∷ vs) (scalar.Binary op s.at x y)
 add_term us vs x y s Plus h a b = scalar_plus a s (sign_is (sort_of s.kind) Plus h) b
 add_term us vs x y s Minus h a b = scalar_minus a s (sign_is (sort_of s.kind) Minus h) b
@@ -80,111 +57,47 @@ pub s_scalar_factors : (x : Scalar) (k : Scalar → Calm) (p : Program) (t : Tok
     (o : Option Arith) → times_of (sort_of t.kind) ≡ o → (MeansNext next p ts → MeansCalm (k x) p (t ∷ ts))
     → MeansNext (step_scalar_factors x k t.at next o) p ts → MeansCalm (MoreScalarFactors x k) p (t ∷ ts)
 s_scalar_factors x k p t ts next (Some op) e go m =
-    let w = m.goes_on in
-    record {
-      front = t ∷ (m.front ++ w.front);
-      back = w.back;
-      value = w.value;
-      split = both_of t ts m.front m.back w.front w.back m.split w.split;
-      is = λ before h. subst (λ l. IsScalarTerm l w.value) (append_assoc before (t ∷ m.front) w.front)
-          (w.is (before ++ t ∷ m.front) (add_factor before m.front x m.value t op e h m.is));
-      goes_on = w.goes_on;
-    }
-s_scalar_factors x k p t ts next None e go m = record {
-  front = [];
-  back = t ∷ ts;
-  value = x;
-  split = refl;
-  is = stays IsScalarTerm x;
-  goes_on = go m;
-}
+    goes_on_with IsScalarTerm (scalar.Binary op t.at x) x t m λ us vs y. add_factor us vs x y t op e
+s_scalar_factors x k p t ts next None e go m = no_token x (t ∷ ts) (stays IsScalarTerm x) (go m)
 
 -- a term that has begun is the product so far and what goes on with it
 pub term_from : (k : Scalar → Calm) (p : Program) (ts : List Token) → Means (ScalarTerm k) p ts
     → Front IsScalarTerm (λ x. MeansCalm (k x) p) ts
-term_from k p ts m =
-    let w = m.goes_on in
-    record {
-      front = m.front ++ w.front;
-      back = w.back;
-      value = w.value;
-      split = two ts m.front m.back w.front w.back m.split w.split;
-      is = w.is m.front (scalar_factor m.is);
-      goes_on = w.goes_on;
-    }
+term_from k p ts m = begun_with IsScalarTerm (λ x. x) [] m λ us x i. scalar_factor i
 
 pub s_scalar_terms : (x : Scalar) (k : Scalar → Calm) (p : Program) (t : Token) (ts : List Token) (next : Option State) (o : Option Arith)
-    → sign_of (sort_of t.kind) ≡ o → (MeansNext next p ts → MeansCalm (k x) p (t ∷ ts))
+    → sign_by (sort_of t.kind) ≡ o → (MeansNext next p ts → MeansCalm (k x) p (t ∷ ts))
     → MeansNext (step_scalar_terms x k t.at next o) p ts → MeansCalm (MoreScalarTerms x k) p (t ∷ ts)
-s_scalar_terms x k p t ts next (Some op) e go n =
-    let m = term_from (λ y. MoreScalarTerms (scalar.Binary op t.at x y) k) p ts n in
-    let w = m.goes_on in
-    record {
-      front = t ∷ (m.front ++ w.front);
-      back = w.back;
-      value = w.value;
-      split = both_of t ts m.front m.back w.front w.back m.split w.split;
-      is = λ before h. subst (λ l. IsScalar l w.value) (append_assoc before (t ∷ m.front) w.front)
-          (w.is (before ++ t ∷ m.front) (add_term before m.front x m.value t op e h m.is));
-      goes_on = w.goes_on;
-    }
-s_scalar_terms x k p t ts next None e go m = record {
-  front = [];
-  back = t ∷ ts;
-  value = x;
-  split = refl;
-  is = stays IsScalar x;
-  goes_on = go m;
-}
+s_scalar_terms x k p t ts next (Some op) e go m =
+    goes_on_with IsScalar (scalar.Binary op t.at x) x t (term_from (λ y. MoreScalarTerms (scalar.Binary op t.at x y) k) p ts m)
+    λ us vs y. add_term us vs x y t op e
+s_scalar_terms x k p t ts next None e go m = no_token x (t ∷ ts) (stays IsScalar x) (go m)
+
+-- a scalar that begins with a term, behind these tokens
+scalar_begun : (f : Scalar → Scalar) (ps : List Token) (k : Scalar → Calm) (p : Program) (ts : List Token)
+    → Means (ScalarTerm (λ y. MoreScalarTerms (f y) k)) p ts → ((us : List Token) (x : Scalar) → IsScalarTerm us x
+    → IsScalar (ps ++ us) (f x))
+    → Means (WholeScalar k) p (ps ++ ts)
+scalar_begun f ps k p ts m make = begun_with IsScalar f ps (term_from (λ y. MoreScalarTerms (f y) k) p ts m) make
 
 pub scalar_unsigned : (k : Scalar → Calm) (p : Program) (ts : List Token) → Means (SignedScalar k None) p ts → Means (WholeScalar k) p ts
-scalar_unsigned k p ts n =
-    let m = term_from (λ y. MoreScalarTerms y k) p ts n in
-    let w = m.goes_on in
-    record {
-      front = m.front ++ w.front;
-      back = w.back;
-      value = w.value;
-      split = two ts m.front m.back w.front w.back m.split w.split;
-      is = w.is m.front (scalar_term m.is);
-      goes_on = w.goes_on;
-    }
+scalar_unsigned k p ts m = scalar_begun (λ y. y) [] k p ts m λ us x i. scalar_term i
 
 pub s_scalar_lead : (k : Scalar → Calm) (p : Program) (t : Token) (ts : List Token) (next : Option State) (o : Option Arith)
-    → sign_of (sort_of t.kind) ≡ o → (MeansNext next p ts → Means (WholeScalar k) p (t ∷ ts))
+    → sign_by (sort_of t.kind) ≡ o → (MeansNext next p ts → Means (WholeScalar k) p (t ∷ ts))
     → MeansNext (step_lead (SignedScalar k) t.at next o) p ts → Means (WholeScalar k) p (t ∷ ts)
-s_scalar_lead k p t ts next (Some Plus) h go n =
-    let m = term_from (λ y. MoreScalarTerms y k) p ts n in
-    let w = m.goes_on in
-    record {
-      front = t ∷ (m.front ++ w.front);
-      back = w.back;
-      value = w.value;
-      split = both_of t ts m.front m.back w.front w.back m.split
-          w.split;
-      is = w.is (t ∷ m.front) (scalar_signed_plus t (sign_is (sort_of t.kind) Plus h) m.is);
-      goes_on = w.goes_on;
-    }
-s_scalar_lead k p t ts next (Some Minus) h go n =
-    let m = term_from (λ y. MoreScalarTerms (scalar.Negate t.at y) k) p ts n in
-    let w = m.goes_on in
-    record {
-      front = t ∷ (m.front ++ w.front);
-      back = w.back;
-      value = w.value;
-      split = both_of t ts m.front m.back w.front w.back m.split
-          w.split;
-      is = w.is (t ∷ m.front) (scalar_signed_minus t (sign_is (sort_of t.kind) Minus h) m.is);
-      goes_on = w.goes_on;
-    }
-s_scalar_lead k p t ts next (Some Times) h go n = absurd (no_times_sign (sort_of t.kind) h)
+s_scalar_lead k p t ts next (Some Plus) h go m =
+    scalar_begun (λ y. y) (t ∷ []) k p ts m λ us x i. scalar_signed_plus t (sign_is (sort_of t.kind) Plus h) i
+s_scalar_lead k p t ts next (Some Minus) h go m =
+    scalar_begun (scalar.Negate t.at) (t ∷ []) k p ts m λ us x i. scalar_signed_minus t (sign_is (sort_of t.kind) Minus h) i
+s_scalar_lead k p t ts next (Some Times) h go m = absurd (no_times_sign (sort_of t.kind) h)
 s_scalar_lead k p t ts next None h go m = go m
 
 pub s_whole_scalar : (k : Scalar → Calm) (p : Program) (t : Token) (ts : List Token)
     → MeansNext (step_whole_scalar k (sort_of t.kind) t.at) p ts → Means (WholeScalar k) p (t ∷ ts)
 s_whole_scalar k p t ts m =
     let k' : Scalar → Calm = λ x. MoreScalarFactors x (λ y. MoreScalarTerms y k) in
-    s_scalar_lead k p t ts (step_scalar_factor k' (sort_of t.kind) t.at) (sign_of (sort_of t.kind)) refl
+    s_scalar_lead k p t ts (step_scalar_factor k' (sort_of t.kind) t.at) (sign_by (sort_of t.kind)) refl
     (λ n. scalar_unsigned k p (t ∷ ts) (s_scalar_factor k' p t ts (sort_of t.kind) refl n)) m
 
 -- a scalar has a first token
@@ -219,35 +132,19 @@ placed_from t ts (f ∷ us) back x rest e i g =
 
 -- ---- subscripts
 
-pub add_offset : (us vs : List Token) (add : List Term) (x : Scalar) (s : Token) (op : Arith) → sign_of (sort_of s.kind) ≡ Some op
+pub add_offset : (us vs : List Token) (add : List Term) (x : Scalar) (s : Token) (op : Arith) → sign_by (sort_of s.kind) ≡ Some op
     → IsOffset us add → IsScalarTerm vs x → IsOffset (us ++ s ∷ vs) (add ++ term_of op s.at x ∷ [])
 add_offset us vs add x s Plus h a b = offset_plus a s (sign_is (sort_of s.kind) Plus h) b
 add_offset us vs add x s Minus h a b = offset_minus a s (sign_is (sort_of s.kind) Minus h) b
 add_offset us vs add x s Times h a b = absurd (no_times_sign (sort_of s.kind) h)
 
 pub s_offset : (add : List Term) (k : List Term → Calm) (p : Program) (t : Token) (ts : List Token) (next : Option State)
-    (o : Option Arith) → sign_of (sort_of t.kind) ≡ o → (MeansNext next p ts → MeansCalm (k add) p (t ∷ ts))
+    (o : Option Arith) → sign_by (sort_of t.kind) ≡ o → (MeansNext next p ts → MeansCalm (k add) p (t ∷ ts))
     → MeansNext (step_offset add k t.at next o) p ts → MeansCalm (MoreOffset add k) p (t ∷ ts)
-s_offset add k p t ts next (Some op) e go n =
-    let m = term_from (λ y. MoreOffset (add ++ term_of op t.at y ∷ []) k) p ts n in
-    let w = m.goes_on in
-    record {
-      front = t ∷ (m.front ++ w.front);
-      back = w.back;
-      value = w.value;
-      split = both_of t ts m.front m.back w.front w.back m.split w.split;
-      is = λ before h. subst (λ l. IsOffset l w.value) (append_assoc before (t ∷ m.front) w.front)
-          (w.is (before ++ t ∷ m.front) (add_offset before m.front add m.value t op e h m.is));
-      goes_on = w.goes_on;
-    }
-s_offset add k p t ts next None e go m = record {
-  front = [];
-  back = t ∷ ts;
-  value = add;
-  split = refl;
-  is = stays IsOffset add;
-  goes_on = go m;
-}
+s_offset add k p t ts next (Some op) e go m =
+    goes_on_with IsOffset (λ y. add ++ term_of op t.at y ∷ []) add t
+    (term_from (λ y. MoreOffset (add ++ term_of op t.at y ∷ []) k) p ts m) λ us vs y. add_offset us vs add y t op e
+s_offset add k p t ts next None e go m = no_token add (t ∷ ts) (stays IsOffset add) (go m)
 
 pub not_again : (index : List ℕ) (t : Token) → is_word index t.kind ≡ false → IsAgain index t → ⊥
 not_again index t h e = let g = again index t e in cc
@@ -264,23 +161,9 @@ pub s_subscript : (index : List ℕ) (k : Subscript → Calm) (p : Program) (t :
     → MeansNext (step_subscript index k t.at (step_whole_scalar (λ x. k (subscript.Scalar x)) (sort_of t.kind) t.at) b o) p ts
     → Means (InSubscript index k) p (t ∷ ts)
 s_subscript index k p t ts true o h g m =
-    record {
-      front = t ∷ m.front;
-      back = m.back;
-      value = subscript.Plain m.value;
-      split = ap (λ l. t ∷ l) m.split;
-      is = plain t (word_again index t.kind h) (m.is [] no_offset);
-      goes_on = m.goes_on;
-    }
+    behind_tokens subscript.Plain (t ∷ []) m λ us add i. plain t (word_again index t.kind h) (i [] no_offset)
 s_subscript index k p t ts false (Some name) h g m =
-    record {
-      front = t ∷ m.front;
-      back = m.back;
-      value = m.value;
-      split = ap (λ l. t ∷ l) m.split;
-      is = m.is t (name_is (sort_of t.kind) name g) refl (not_again index t h);
-      goes_on = m.goes_on;
-    }
+    behind_tokens (λ x. x) (t ∷ []) m λ us x i. i t (name_is (sort_of t.kind) name g) refl (not_again index t h)
 s_subscript index k p t ts false None h g n =
     let m = s_whole_scalar (λ x. k (subscript.Scalar x)) p t ts n in
     record {
@@ -296,22 +179,11 @@ s_subscript index k p t ts false None h g n =
 pub scalar_goes_on : (index name : List ℕ) (at : SourcePlace) (k : Subscript → Calm) (p : Program) (ts : List Token)
     → MeansCalm (MoreScalarFactors (scalar.Named name at) (λ y. MoreScalarTerms y (λ x. k (subscript.Scalar x)))) p ts
     → MeansCalm (AfterSubscriptName index name at k) p ts
-scalar_goes_on index name at k p ts m =
-    let w = m.goes_on in
-    let is : SubscriptRest index name at (m.front ++ w.front) (subscript.Scalar w.value) = λ u f g n.
+scalar_goes_on index name at k p ts m = two_phrases subscript.Scalar [] m
+    λ us vs y x i j u f g n.
     let first : IsScalarTerm (u ∷ []) (scalar.Named name at) = subst (λ a. IsScalarTerm (u ∷ []) (scalar.Named name a)) g
     (scalar_factor (scalar_name name u f)) in
-    scalar_subscript u n (w.is (u ∷ m.front) (scalar_term (m.is (u ∷ []) first)))
-    in
-    record {
-      front = m.front ++ w.front;
-      back = w.back;
-      value = subscript.Scalar w.value;
-      split = two ts m.front m.back w.front w.back
-          m.split w.split;
-      is = is;
-      goes_on = w.goes_on;
-    }
+    scalar_subscript u n (j (u ∷ us) (scalar_term (i (u ∷ []) first)))
 
 pub s_after_subscript_name : (index name : List ℕ) (at : SourcePlace) (k : Subscript → Calm) (p : Program) (t : Token) (ts : List Token)
     (next : Option State) (b : Bool) → opens (sort_of t.kind) ≡ b
@@ -346,75 +218,25 @@ pub s_element : (index : List ℕ) (n o : Token) (name : List ℕ) (k : Element 
     → Is (sort.Named name) n → Is sort.Open o → Means (InElement index name n.at k) p ts → Front (IsElement index) (λ e. Means (k e) p)
     (n ∷ o ∷ ts)
 s_element index n o name k p ts en eo m =
-    let w = m.goes_on in
-    record {
-      front = n ∷ o ∷ (m.front ++ w.token ∷ []);
-      back = w.back;
-      value = element_of name n.at m.value;
-      split = ap (λ l. n ∷ l) (behind o w.token ts m.front m.back w.back m.split w.split);
-      is = element n o w.token en eo m.is w.is;
-      goes_on = w.goes_on;
-    }
+    closed_by (element_of name n.at) (n ∷ o ∷ []) m λ us s c i e. element n o c en eo i e
 
 -- ---- expressions
 
 pub s_expr_factor : (index : List ℕ) (k : Expr → Calm) (p : Program) (t : Token) (ts : List Token) (c : Sort) → Is c t
     → MeansNext (step_expr_factor index k c t.at) p ts → Means (ExprFactor index k) p (t ∷ ts)
-s_expr_factor index k p t ts (sort.Numbered n) e m = record {
-  front = t ∷ [];
-  back = ts;
-  value = expr.Number n;
-  split = refl;
-  is = expr_number n t e;
-  goes_on = m;
-}
-s_expr_factor index k p t ts (sort.Named n) e m = record {
-  front = t ∷ m.front;
-  back = m.back;
-  value = m.value;
-  split = ap (λ l. t ∷ l) m.split;
-  is = m.is t e refl;
-  goes_on = m.goes_on;
-}
-s_expr_factor index k p t ts sort.Open e m =
-    let w = m.goes_on in
-    record {
-      front = t ∷ (m.front ++ w.token ∷ []);
-      back = w.back;
-      value = m.value;
-      split = behind t w.token ts m.front m.back w.back
-          m.split w.split;
-      is = expr_inside t e m.is w.token w.is;
-      goes_on = w.goes_on;
-    }
+s_expr_factor index k p t ts (sort.Numbered n) e m = one_token (expr.Number n) t ts (expr_number n t e) m
+s_expr_factor index k p t ts (sort.Named n) e m = behind_tokens (λ x. x) (t ∷ []) m λ us x i. i t e refl
+s_expr_factor index k p t ts sort.Open e m = closed_by (λ x. x) (t ∷ []) m λ us x c i g. expr_inside t e i c g
 s_expr_factor index k p t ts _ e m = absurd m
 
 pub s_after_name : (index name : List ℕ) (at : SourcePlace) (k : Expr → Calm) (p : Program) (t : Token) (ts : List Token)
     (next : Option State) (b : Bool) → opens (sort_of t.kind) ≡ b → (MeansNext next p ts → MeansCalm (k (expr.Named name at)) p (t ∷ ts))
     → MeansNext (step_after_name index name at k next b) p ts → MeansCalm (AfterName index name at k) p (t ∷ ts)
-s_after_name index name at k p t ts next true h go m =
-    let w = m.goes_on in
-    let is : NameRest index name at (t ∷ (m.front ++ w.token ∷ [])) (expr.Read (element_of name at m.value)) = λ u f g.
-    subst (λ q. IsExprFactor index (u ∷ t ∷ (m.front ++ w.token ∷ [])) (expr.Read (element_of name q m.value))) g
-    (expr_element (element u t w.token f (opens_is (sort_of t.kind) h) m.is w.is))
-    in
-    record {
-      front = t ∷ (m.front ++ w.token ∷ []);
-      back = w.back;
-      value = expr.Read (element_of name at m.value);
-      split = behind t w.token ts m.front m.back w.back m.split w.split;
-      is = is;
-      goes_on = w.goes_on;
-    }
-s_after_name index name at k p t ts next false h go m =
-    record {
-      front = [];
-      back = t ∷ ts;
-      value = expr.Named name at;
-      split = refl;
-      is = λ u f g. subst (λ q. IsExprFactor index (u ∷ []) (expr.Named name q)) g (expr_name name u f);
-      goes_on = go m;
-    }
+s_after_name index name at k p t ts next true h go m = closed_by (λ s. expr.Read (element_of name at s)) (t ∷ []) m
+    λ us s c i e u f g. subst (λ q. IsExprFactor index (u ∷ t ∷ (us ++ c ∷ [])) (expr.Read (element_of name q s))) g
+    (expr_element (element u t c f (opens_is (sort_of t.kind) h) i e))
+s_after_name index name at k p t ts next false h go m = no_token (expr.Named name at) (t ∷ ts)
+    (λ u f g. subst (λ q. IsExprFactor index (u ∷ []) (expr.Named name q)) g (expr_name name u f)) (go m)
 
 pub add_expr_factor : (index : List ℕ) (us vs : List Token) (x y : Expr) (s : Token) (op : Arith) → times_of (sort_of s.kind) ≡ Some op
     → IsExprTerm index us x → IsExprFactor index vs y → IsExprTerm index (us ++ s ∷ vs) (expr.Binary op x y)
@@ -422,7 +244,7 @@ add_expr_factor index us vs x y s op h a b =
     let e = times_is (sort_of s.kind) op h in
     subst (λ o. IsExprTerm index (us ++ s ∷ vs) (expr.Binary o x y)) e.1 (expr_times a s e.0 b)
 
-pub add_expr_term : (index : List ℕ) (us vs : List Token) (x y : Expr) (s : Token) (op : Arith) → sign_of (sort_of s.kind) ≡ Some op
+pub add_expr_term : (index : List ℕ) (us vs : List Token) (x y : Expr) (s : Token) (op : Arith) → sign_by (sort_of s.kind) ≡ Some op
     → IsExpr index us x → IsExprTerm index vs y → IsExpr index (us ++ s ∷ vs) (expr.Binary op x y)
 add_expr_term index us vs x y s Plus h a b = expr_plus a s (sign_is (sort_of s.kind) Plus h) b
 add_expr_term index us vs x y s Minus h a b = expr_minus a s (sign_is (sort_of s.kind) Minus h) b
@@ -432,102 +254,38 @@ pub s_expr_factors : (index : List ℕ) (x : Expr) (k : Expr → Calm) (p : Prog
     (o : Option Arith) → times_of (sort_of t.kind) ≡ o → (MeansNext next p ts → MeansCalm (k x) p (t ∷ ts))
     → MeansNext (step_expr_factors index x k next o) p ts → MeansCalm (MoreExprFactors index x k) p (t ∷ ts)
 s_expr_factors index x k p t ts next (Some op) e go m =
-    let w = m.goes_on in
-    record {
-      front = t ∷ (m.front ++ w.front);
-      back = w.back;
-      value = w.value;
-      split = both_of t ts m.front m.back w.front w.back m.split w.split;
-      is = λ before h. subst (λ l. IsExprTerm index l w.value) (append_assoc before (t ∷ m.front) w.front)
-          (w.is (before ++ t ∷ m.front) (add_expr_factor index before m.front x m.value t op e h m.is));
-      goes_on = w.goes_on;
-    }
-s_expr_factors index x k p t ts next None e go m = record {
-  front = [];
-  back = t ∷ ts;
-  value = x;
-  split = refl;
-  is = stays (IsExprTerm index) x;
-  goes_on = go m;
-}
+    goes_on_with (IsExprTerm index) (expr.Binary op x) x t m λ us vs y. add_expr_factor index us vs x y t op e
+s_expr_factors index x k p t ts next None e go m = no_token x (t ∷ ts) (stays (IsExprTerm index) x) (go m)
 
 pub expr_term_from : (index : List ℕ) (k : Expr → Calm) (p : Program) (ts : List Token) → Means (ExprTerm index k) p ts
     → Front (IsExprTerm index) (λ x. MeansCalm (k x) p) ts
-expr_term_from index k p ts m =
-    let w = m.goes_on in
-    record {
-      front = m.front ++ w.front;
-      back = w.back;
-      value = w.value;
-      split = two ts m.front m.back w.front w.back m.split w.split;
-      is = w.is m.front (expr_factor m.is);
-      goes_on = w.goes_on;
-    }
+expr_term_from index k p ts m = begun_with (IsExprTerm index) (λ x. x) [] m λ us x i. expr_factor i
 
 pub s_expr_terms : (index : List ℕ) (x : Expr) (k : Expr → Calm) (p : Program) (t : Token) (ts : List Token) (next : Option State)
-    (o : Option Arith) → sign_of (sort_of t.kind) ≡ o → (MeansNext next p ts → MeansCalm (k x) p (t ∷ ts))
+    (o : Option Arith) → sign_by (sort_of t.kind) ≡ o → (MeansNext next p ts → MeansCalm (k x) p (t ∷ ts))
     → MeansNext (step_expr_terms index x k next o) p ts → MeansCalm (MoreExprTerms index x k) p (t ∷ ts)
-s_expr_terms index x k p t ts next (Some op) e go n =
-    let m = expr_term_from index (λ y. MoreExprTerms index (expr.Binary op x y) k) p ts n in
-    let w = m.goes_on in
-    record {
-      front = t ∷ (m.front ++ w.front);
-      back = w.back;
-      value = w.value;
-      split = both_of t ts m.front m.back w.front w.back m.split w.split;
-      is = λ before h. subst (λ l. IsExpr index l w.value) (append_assoc before (t ∷ m.front) w.front)
-          (w.is (before ++ t ∷ m.front) (add_expr_term index before m.front x m.value t op e h m.is));
-      goes_on = w.goes_on;
-    }
-s_expr_terms index x k p t ts next None e go m = record {
-  front = [];
-  back = t ∷ ts;
-  value = x;
-  split = refl;
-  is = stays (IsExpr index) x;
-  goes_on = go m;
-}
+s_expr_terms index x k p t ts next (Some op) e go m =
+    goes_on_with (IsExpr index) (expr.Binary op x) x t (expr_term_from index (λ y. MoreExprTerms index (expr.Binary op x y) k) p ts m)
+    λ us vs y. add_expr_term index us vs x y t op e
+s_expr_terms index x k p t ts next None e go m = no_token x (t ∷ ts) (stays (IsExpr index) x) (go m)
+
+-- an expression that begins with a term, behind these tokens
+expr_begun : (index : List ℕ) (f : Expr → Expr) (ps : List Token) (k : Expr → Calm) (p : Program) (ts : List Token)
+    → Means (ExprTerm index (λ y. MoreExprTerms index (f y) k)) p ts → ((us : List Token) (x : Expr) → IsExprTerm index us x
+    → IsExpr index (ps ++ us) (f x))
+    → Means (WholeExpr index k) p (ps ++ ts)
+expr_begun index f ps k p ts m make = begun_with (IsExpr index) f ps (expr_term_from index (λ y. MoreExprTerms index (f y) k) p ts m) make
 
 pub expr_unsigned : (index : List ℕ) (k : Expr → Calm) (p : Program) (ts : List Token) → Means (SignedExpr index k None) p ts
     → Means (WholeExpr index k) p ts
-expr_unsigned index k p ts n =
-    let m = expr_term_from index (λ y. MoreExprTerms index y k) p ts n in
-    let w = m.goes_on in
-    record {
-      front = m.front ++ w.front;
-      back = w.back;
-      value = w.value;
-      split = two ts m.front m.back w.front w.back m.split w.split;
-      is = w.is m.front (expr_term m.is);
-      goes_on = w.goes_on;
-    }
+expr_unsigned index k p ts m = expr_begun index (λ y. y) [] k p ts m λ us x i. expr_term i
 
 pub s_expr_lead : (index : List ℕ) (k : Expr → Calm) (p : Program) (t : Token) (ts : List Token) (next : Option State) (o : Option Arith)
-    → sign_of (sort_of t.kind) ≡ o → (MeansNext next p ts → Means (WholeExpr index k) p (t ∷ ts))
+    → sign_by (sort_of t.kind) ≡ o → (MeansNext next p ts → Means (WholeExpr index k) p (t ∷ ts))
     → MeansNext (step_lead (SignedExpr index k) t.at next o) p ts → Means (WholeExpr index k) p (t ∷ ts)
-s_expr_lead index k p t ts next (Some Plus) h go n =
-    let m = expr_term_from index (λ y. MoreExprTerms index y k) p ts n in
-    let w = m.goes_on in
-    record {
-      front = t ∷ (m.front ++ w.front);
-      back = w.back;
-      value = w.value;
-      split = both_of t ts m.front m.back w.front w.back m.split
-          w.split;
-      is = w.is (t ∷ m.front) (expr_signed_plus t (sign_is (sort_of t.kind) Plus h) m.is);
-      goes_on = w.goes_on;
-    }
-s_expr_lead index k p t ts next (Some Minus) h go n =
-    let m = expr_term_from index (λ y. MoreExprTerms index (expr.Negate y) k) p ts n in
-    let w = m.goes_on in
-    record {
-      front = t ∷ (m.front ++ w.front);
-      back = w.back;
-      value = w.value;
-      split = both_of t ts m.front m.back w.front w.back m.split
-          w.split;
-      is = w.is (t ∷ m.front) (expr_signed_minus t (sign_is (sort_of t.kind) Minus h) m.is);
-      goes_on = w.goes_on;
-    }
-s_expr_lead index k p t ts next (Some Times) h go n = absurd (no_times_sign (sort_of t.kind) h)
+s_expr_lead index k p t ts next (Some Plus) h go m =
+    expr_begun index (λ y. y) (t ∷ []) k p ts m λ us x i. expr_signed_plus t (sign_is (sort_of t.kind) Plus h) i
+s_expr_lead index k p t ts next (Some Minus) h go m =
+    expr_begun index expr.Negate (t ∷ []) k p ts m λ us x i. expr_signed_minus t (sign_is (sort_of t.kind) Minus h) i
+s_expr_lead index k p t ts next (Some Times) h go m = absurd (no_times_sign (sort_of t.kind) h)
 s_expr_lead index k p t ts next None h go m = go m

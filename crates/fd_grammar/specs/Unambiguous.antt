@@ -2,7 +2,7 @@
 use Rattle.std.specs.Prelude.{◌≡◌, List}
 use Rattle.fd_lexer.specs.declared.token.Token.{Token}
 use Rattle.fd_syntax.specs.declared.program.Program.{Program}
-use Rattle.fd_grammar.specs.Grammar.{HasTokens}
+use Rattle.fd_grammar.specs.Grammar.{IsWrittenAs}
 
 abbrev pub EachHasOneProgram : Type 0
-EachHasOneProgram = (ts : List Token) (p q : Program) → HasTokens p ts → HasTokens q ts → p ≡ q
+EachHasOneProgram = (ts : List Token) (p q : Program) → IsWrittenAs p ts → IsWrittenAs q ts → p ≡ q

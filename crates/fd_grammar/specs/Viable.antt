@@ -1,5 +1,6 @@
 -- From each state the machine can come to a program.
-use Rattle.std.proofs.Common.{◌≡◌, ℕ, pos, false, List, [], ◌∷◌, ◌++◌, Option, Some, None, Ok, Err, refl, ap, sym, ◌∙◌, subst, codes}
+use Rattle.std.proofs.Common.{◌≡◌, ℕ, pos, true, false, unwrap_or, List, [], ◌∷◌, ◌++◌, Option, Some, None, Ok, Err, refl, ap, sym, ◌∙◌}
+use Rattle.std.proofs.Common.{subst, codes}
 use Rattle.fd_words.specs.declared.source.SourcePlace.{SourcePlace}
 use Rattle.fd_words.specs.declared.combine.Combine.TheVariants.{Add}
 use Rattle.fd_lexer.specs.declared.token.TokenKind.{TokenKind}
@@ -24,29 +25,30 @@ use Rattle.fd_grammar.specs.declared.mark.Mark.{Mark}
 use Rattle.fd_grammar.specs.declared.mark.Mark.TheVariants as mark
 use Rattle.fd_grammar.specs.declared.mark.Fixed.{Fixed}
 use Rattle.fd_grammar.specs.declared.mark.Fixed.TheVariants as fixed
-use Rattle.fd_grammar.specs.Sorts.{sort_of, sort_of_word, sign_of, times_of, opens}
+use Rattle.fd_grammar.specs.Sorts.{reserved, sort_in, sort_of, sort_of_word, sign_by, times_of, opens}
 use Rattle.fd_grammar.specs.Machine.{EndOfProgram, EndOfDo, EndOfForall, Item, ParameterItem, SizedItem, ListedItem, AlignedItem, Value}
 use Rattle.fd_grammar.specs.Machine.{mark_of, State, Calm, ScalarFactor, WholeScalar, PlacedScalar, ExprFactor, WholeExpr, InSubscript}
 use Rattle.fd_grammar.specs.Machine.{AnyName, SameName, Take, InForm, Operator, Head, Body, Close, FirstInner, MoreInner, Begin, Ended}
 use Rattle.fd_grammar.specs.Machine.{Then, MoreScalarFactors, MoreScalarTerms, MoreExprFactors, MoreExprTerms, AfterName}
 use Rattle.fd_grammar.specs.Machine.{AfterSubscriptName, MoreOffset, AfterCyclic, MoreItems, Want, step_offset, step_after_subscript_name}
-use Rattle.fd_grammar.specs.Machine.{step_expr_terms, step_after_cyclic, step, step_calm, after, run, ending}
+use Rattle.fd_grammar.specs.Machine.{step_expr_terms, step_after_cyclic, step_want, is_mark, step, step_calm, after, run, ending}
 use Rattle.fd_grammar.specs.Grammar.{Is, IsAgain, no_lines, scalar_term, scalar_factor, scalar_number, scalar_subscript, element, expr_term}
 use Rattle.fd_grammar.specs.Grammar.{expr_factor, expr_number, assigned, AreInner, last_inner, end_forall_word}
 use Rattle.fd_grammar.specs.CompleteExpr.{go, go_again, no_star, no_sign, no_star_expr, no_open}
 use Rattle.fd_grammar.specs.Complete.{reads_first_inner, forall_closes}
+use Rattle.fd_grammar.specs.TokenTests.{mark_sort}
 
 abbrev origin : SourcePlace
 origin = record { line = 1; column = 1 }
 
-abbrev token_of : TokenKind → Token
-token_of k = record { kind = k; at = origin; start = 0; end = 0 }
+abbrev placeless : TokenKind → Token
+placeless k = record { kind = k; at = origin; start = 0; end = 0 }
 
 abbrev word_of : List ℕ → Token
-word_of w = token_of (kind.Word w)
+word_of w = placeless (kind.Word w)
 
 abbrev zero_token : Token
-zero_token = token_of (kind.Number (pos 0))
+zero_token = placeless (kind.Number (pos 0))
 
 is_zero : Is (sort.Numbered (pos 0)) zero_token
 unfolding sort_of
@@ -59,29 +61,10 @@ is_letter : Is (sort.Named letter) (word_of letter)
 unfolding sort_of sort_of_word
 is_letter = refl
 
-is_program_word : Is sort.ProgramWord (word_of (codes "PROGRAM"))
+-- a reserved word is what the table says
+is_reserved : (w : List ℕ) (c : Sort) → sort_in reserved w ≡ Some c → Is c (word_of w)
 unfolding sort_of sort_of_word
-is_program_word = refl
-
-is_end : Is sort.EndWord (word_of (codes "END"))
-unfolding sort_of sort_of_word
-is_end = refl
-
-is_end_do : Is sort.EndDoWord (word_of (codes "ENDDO"))
-unfolding sort_of sort_of_word
-is_end_do = refl
-
-is_end_forall : Is sort.EndForallWord (word_of (codes "ENDFORALL"))
-unfolding sort_of sort_of_word
-is_end_forall = refl
-
-is_block : Is sort.BlockWord (word_of (codes "BLOCK"))
-unfolding sort_of sort_of_word
-is_block = refl
-
-is_add : Is sort.AddWord (word_of (codes "ADD"))
-unfolding sort_of sort_of_word
-is_add = refl
+is_reserved w c e = ap (λ o. unwrap_or o (sort.Named w)) e
 
 abbrev kind_of : Mark → TokenKind
 kind_of mark.Close = kind.CloseParen
@@ -90,15 +73,8 @@ kind_of mark.Equals = kind.Equals
 kind_of mark.Line = kind.LineEnd
 kind_of mark.With = kind.Word (codes "WITH")
 
-abbrev pub mark_sort : Mark → Sort
-mark_sort mark.Close = sort.Close
-mark_sort mark.Comma = sort.Comma
-mark_sort mark.Equals = sort.Equals
-mark_sort mark.Line = sort.LineEnd
-mark_sort mark.With = sort.WithWord
-
 abbrev marked : Mark → Token
-marked m = token_of (kind_of m)
+marked m = placeless (kind_of m)
 
 is_marked : (m : Mark) → Is (mark_sort m) (marked m)
 unfolding sort_of sort_of_word
@@ -108,35 +84,23 @@ is_marked mark.Equals = refl
 is_marked mark.Line = refl
 is_marked mark.With = refl
 
-mark_times : (m : Mark) → times_of (mark_sort m) ≡ None
-mark_times mark.Close = refl
-mark_times mark.Comma = refl
-mark_times mark.Equals = refl
-mark_times mark.Line = refl
-mark_times mark.With = refl
-
-mark_sign : (m : Mark) → sign_of (mark_sort m) ≡ None
-mark_sign mark.Close = refl
-mark_sign mark.Comma = refl
-mark_sign mark.Equals = refl
-mark_sign mark.Line = refl
-mark_sign mark.With = refl
-
-mark_shut : (m : Mark) → opens (mark_sort m) ≡ false
-mark_shut mark.Close = refl
-mark_shut mark.Comma = refl
-mark_shut mark.Equals = refl
-mark_shut mark.Line = refl
-mark_shut mark.With = refl
+-- a mark goes on with no phrase, and is the mark that it is
+mark_ends : (m : Mark) → (times_of (mark_sort m) ≡ None) × (sign_by (mark_sort m) ≡ None) × (opens (mark_sort m) ≡ false)
+    × (is_mark m (mark_sort m) ≡ true)
+mark_ends mark.Close = (refl, refl, refl, refl)
+mark_ends mark.Comma = (refl, refl, refl, refl)
+mark_ends mark.Equals = (refl, refl, refl, refl)
+mark_ends mark.Line = (refl, refl, refl, refl)
+mark_ends mark.With = (refl, refl, refl, refl)
 
 no_times : (m : Mark) → times_of (sort_of (marked m).kind) ≡ None
-no_times m = ap times_of (is_marked m) ∙ mark_times m
+no_times m = ap times_of (is_marked m) ∙ (mark_ends m).0
 
-no_plus : (m : Mark) → sign_of (sort_of (marked m).kind) ≡ None
-no_plus m = ap sign_of (is_marked m) ∙ mark_sign m
+no_plus : (m : Mark) → sign_by (sort_of (marked m).kind) ≡ None
+no_plus m = ap sign_by (is_marked m) ∙ (mark_ends m).1
 
 is_shut : (m : Mark) → opens (sort_of (marked m).kind) ≡ false
-is_shut m = ap opens (is_marked m) ∙ mark_shut m
+is_shut m = ap opens (is_marked m) ∙ (mark_ends m).2
 
 -- the token that is wanted
 abbrev fixed_kind : Fixed → TokenKind
@@ -146,7 +110,7 @@ fixed_kind fixed.Eight = kind.Number (pos 8)
 fixed_kind fixed.Do = kind.Word (codes "DO")
 fixed_kind fixed.Forall = kind.Word (codes "FORALL")
 
-takes : (f : Fixed) (s : State) (more : List Token) → run (token_of (fixed_kind f) ∷ more) (Take f s) ≡ run more s
+takes : (f : Fixed) (s : State) (more : List Token) → run (placeless (fixed_kind f) ∷ more) (Take f s) ≡ run more s
 unfolding sort_of sort_of_word
 takes fixed.Open s more = refl
 takes fixed.Star s more = refl
@@ -155,12 +119,7 @@ takes fixed.Do s more = refl
 takes fixed.Forall s more = refl
 
 wants : (m : Mark) (s : State) (more : List Token) → run (marked m ∷ more) (Then (Want m s)) ≡ run more s
-unfolding sort_of sort_of_word
-wants mark.Close s more = refl
-wants mark.Comma s more = refl
-wants mark.Equals s more = refl
-wants mark.Line s more = refl
-wants mark.With s more = refl
+wants m s more = go (marked m) more (Then (Want m s)) s (mark_sort m) (is_marked m) (ap (λ b. step_want b s) (mark_ends m).3)
 
 items_end : (i : Item) (xs : List (Value i)) (k : List (Value i) → State) (more : List Token)
     → run (marked (mark_of i) ∷ more) (Then (MoreItems i xs k)) ≡ run more (k xs)
@@ -214,14 +173,14 @@ cyclic_passes m k more = ap (λ o. after (marked m) more (run more)
 
 -- a line of a FORALL's body
 abbrev inner_tokens : List Token
-inner_tokens = word_of letter ∷ token_of kind.OpenParen ∷ zero_token ∷ token_of kind.CloseParen ∷ token_of kind.Equals ∷ zero_token
-    ∷ token_of kind.LineEnd ∷ []
+inner_tokens = word_of letter ∷ placeless kind.OpenParen ∷ zero_token ∷ placeless kind.CloseParen ∷ placeless kind.Equals ∷ zero_token
+    ∷ placeless kind.LineEnd ∷ []
 
 abbrev inner_statement : BodyStatement
 inner_statement = inner.Assign (record { name = letter; at = origin; subscript = subscript.Scalar (scalar.Number (pos 0) origin) })
     (expr.Number (pos 0))
 
-is_open : Is sort.Open (token_of kind.OpenParen)
+is_open : Is sort.Open (placeless kind.OpenParen)
 unfolding sort_of
 is_open = refl
 
@@ -230,16 +189,16 @@ not_again index h = cc
 
 an_inner : (index : List ℕ) → AreInner index inner_tokens (inner_statement ∷ [])
 an_inner index =
-    last_inner (assigned (token_of kind.Equals)
-    (element (word_of letter) (token_of kind.OpenParen) (token_of kind.CloseParen) is_letter is_open
+    last_inner (assigned (placeless kind.Equals)
+    (element (word_of letter) (placeless kind.OpenParen) (placeless kind.CloseParen) is_letter is_open
     (scalar_subscript zero_token (not_again index) (scalar_term (scalar_factor (scalar_number (pos 0) zero_token is_zero))))
     (is_marked mark.Close))
     (is_marked mark.Equals) (expr_term (expr_factor (expr_number (pos 0) zero_token is_zero))))
-    (token_of kind.LineEnd) (is_marked mark.Line) no_lines
+    (placeless kind.LineEnd) (is_marked mark.Line) no_lines
 
 -- these tokens lead from the state to the program
-abbrev pub Ends : State → Type 0
-Ends s = (more : List Token) × (p : Program) × (run more s ≡ Ok p)
+abbrev pub CanEnd : State → Type 0
+CanEnd s = (more : List Token) × (p : Program) × (run more s ≡ Ok p)
 
 -- some of them begin with a mark
 abbrev EndsCalm : Calm → Type 0
@@ -248,134 +207,77 @@ EndsCalm c = (m : Mark) × (more : List Token) × (p : Program) × (run (marked 
 abbrev zero_at : Scalar
 zero_at = scalar.Number (pos 0) origin
 
+-- a token of a known sort, and then what the next state needs
+by_token : (t : Token) (c : Sort) (s s' : State) → Is c t → step s t.kind c t.at ≡ Some s' → CanEnd s' → CanEnd s
+by_token t c s s' e h r = (t ∷ r.0, r.1, go t r.0 s s' c e h ∙ r.2)
+
+by_word : (w : List ℕ) (c : Sort) (s s' : State) → sort_in reserved w ≡ Some c → step s (kind.Word w) c origin ≡ Some s' → CanEnd s'
+    → CanEnd s
+by_word w c s s' e h r = by_token (word_of w) c s s' (is_reserved w c e) h r
+
+by_zero : (s s' : State) → step s (kind.Number (pos 0)) (sort.Numbered (pos 0)) origin ≡ Some s' → CanEnd s' → CanEnd s
+by_zero s s' h r = by_token zero_token (sort.Numbered (pos 0)) s s' is_zero h r
+
+ends_then : (c : Calm) → EndsCalm c → CanEnd (Then c)
+ends_then c r = (marked r.0 ∷ r.1, r.2, r.3)
+
+-- nothing goes on with a scalar or an expression
+ends_scalar : (k : Scalar → Calm) → EndsCalm (k zero_at) → CanEnd (Then (MoreScalarFactors zero_at (λ y. MoreScalarTerms y k)))
+ends_scalar k r =
+    (marked r.0 ∷ r.1, r.2, factors_pass r.0 zero_at (λ y. MoreScalarTerms y k) r.1 ∙ terms_pass r.0 zero_at k r.1 ∙ r.3)
+
+ends_expr : (index : List ℕ) (k : Expr → Calm) → EndsCalm (k (expr.Number (pos 0)))
+    → CanEnd (Then (MoreExprFactors index (expr.Number (pos 0)) (λ y. MoreExprTerms index y k)))
+ends_expr index k r = (
+  marked r.0 ∷ r.1,
+  r.2,
+  expr_factors_pass r.0 index (expr.Number (pos 0)) (λ y. MoreExprTerms index y k) r.1
+      ∙ expr_terms_pass r.0 index (expr.Number (pos 0)) k r.1 ∙ r.3,
+)
+
 mutual
-  pub ends : (s : State) → Ends s
-  ends (ScalarFactor k) =
-      let r = ends_calm (k zero_at) in (
-        zero_token ∷ marked r.0 ∷ r.1,
-        r.2,
-        go zero_token (marked r.0 ∷ r.1) (ScalarFactor k) (Then (k zero_at)) (sort.Numbered (pos 0))
-            is_zero refl ∙ r.3,
-      )
-  ends (WholeScalar k) =
-      let r = ends_calm (k zero_at) in (
-        zero_token ∷ marked r.0 ∷ r.1,
-        r.2,
-        go zero_token (marked r.0 ∷ r.1) (WholeScalar k) (Then (MoreScalarFactors zero_at (λ y. MoreScalarTerms y k)))
-            (sort.Numbered (pos 0)) is_zero refl
-            ∙ factors_pass r.0 zero_at (λ y. MoreScalarTerms y k) r.1 ∙ terms_pass r.0 zero_at k r.1 ∙ r.3,
-      )
-  ends (PlacedScalar k) =
-      let r = ends_calm (k origin zero_at) in (
-        zero_token ∷ marked r.0 ∷ r.1,
-        r.2,
-        go zero_token (marked r.0 ∷ r.1) (PlacedScalar k) (Then (MoreScalarFactors zero_at (λ y. MoreScalarTerms y (k origin))))
-            (sort.Numbered (pos 0)) is_zero refl
-            ∙ factors_pass r.0 zero_at (λ y. MoreScalarTerms y (k origin)) r.1 ∙ terms_pass r.0 zero_at (k origin) r.1 ∙ r.3,
-      )
+  pub ends : (s : State) → CanEnd s
+  ends (ScalarFactor k) = by_zero (ScalarFactor k) (Then (k zero_at)) refl (ends_then (k zero_at) (ends_calm (k zero_at)))
+  ends (WholeScalar k) = by_zero (WholeScalar k) (Then (MoreScalarFactors zero_at (λ y. MoreScalarTerms y k))) refl
+      (ends_scalar k (ends_calm (k zero_at)))
+  ends (PlacedScalar k) = by_zero (PlacedScalar k) (Then (MoreScalarFactors zero_at (λ y. MoreScalarTerms y (k origin)))) refl
+      (ends_scalar (k origin) (ends_calm (k origin zero_at)))
   ends (ExprFactor index k) =
-      let r = ends_calm (k (expr.Number (pos 0))) in (
-        zero_token ∷ marked r.0 ∷ r.1,
-        r.2,
-        go zero_token (marked r.0 ∷ r.1) (ExprFactor index k) (Then (k (expr.Number (pos 0))))
-            (sort.Numbered (pos 0)) is_zero refl ∙ r.3,
-      )
+      let c = k (expr.Number (pos 0)) in by_zero (ExprFactor index k) (Then c) refl (ends_then c (ends_calm (k (expr.Number (pos 0)))))
   ends (WholeExpr index k) =
-      let r = ends_calm (k (expr.Number (pos 0))) in (
-        zero_token ∷ marked r.0 ∷ r.1,
-        r.2,
-        go zero_token (marked r.0 ∷ r.1) (WholeExpr index k)
-            (Then (MoreExprFactors index (expr.Number (pos 0)) (λ y. MoreExprTerms index y k))) (sort.Numbered (pos 0)) is_zero refl
-            ∙ expr_factors_pass r.0 index (expr.Number (pos 0)) (λ y. MoreExprTerms index y k) r.1
-            ∙ expr_terms_pass r.0 index (expr.Number (pos 0)) k r.1 ∙ r.3,
-      )
+      by_zero (WholeExpr index k) (Then (MoreExprFactors index (expr.Number (pos 0)) (λ y. MoreExprTerms index y k))) refl
+      (ends_expr index k (ends_calm (k (expr.Number (pos 0)))))
   ends (InSubscript index k) =
-      let r = ends_calm (k (subscript.Scalar zero_at)) in
-      let k' : Scalar → Calm = λ x. k (subscript.Scalar x) in (
-        zero_token ∷ marked r.0 ∷ r.1,
-        r.2,
-        go zero_token (marked r.0 ∷ r.1) (InSubscript index k) (Then (MoreScalarFactors zero_at (λ y. MoreScalarTerms y k')))
-            (sort.Numbered (pos 0)) is_zero refl
-            ∙ factors_pass r.0 zero_at (λ y. MoreScalarTerms y k') r.1 ∙ terms_pass r.0 zero_at k' r.1 ∙ r.3,
-      )
+      let k' : Scalar → Calm = λ x. k (subscript.Scalar x) in
+      by_zero (InSubscript index k) (Then (MoreScalarFactors zero_at (λ y. MoreScalarTerms y k'))) refl
+      (ends_scalar k' (ends_calm (k (subscript.Scalar zero_at))))
   ends (AnyName k) =
       let v : Listed = record { name = letter; at = origin } in
-      let r = ends (k v) in
-      (word_of letter ∷ r.0, r.1, go (word_of letter) r.0 (AnyName k) (k v) (sort.Named letter) is_letter refl ∙ r.2)
+      by_token (word_of letter) (sort.Named letter) (AnyName k) (k v) is_letter refl (ends (k v))
   ends (SameName name s) = let r = ends s in (word_of name ∷ r.0, r.1, go_again (word_of name) r.0 name s refl ∙ r.2)
-  ends (Take f s) = let r = ends s in (token_of (fixed_kind f) ∷ r.0, r.1, takes f s r.0 ∙ r.2)
-  ends (InForm k) =
-      let r = ends_calm (k form.Block) in (
-        word_of (codes "BLOCK") ∷ marked r.0 ∷ r.1,
-        r.2,
-        go (word_of (codes "BLOCK")) (marked r.0 ∷ r.1) (InForm k) (Then (k form.Block))
-            sort.BlockWord is_block refl ∙ r.3,
-      )
-  ends (Operator k) = let r = ends (k Add) in (
-    word_of (codes "ADD") ∷ r.0,
-    r.1,
-    go (word_of (codes "ADD")) r.0 (Operator k)
-        (k Add) sort.AddWord is_add refl ∙ r.2,
-  )
-  ends (Head ds ss k) = let r = ends (k ds ss) in (
-    word_of (codes "END") ∷ r.0,
-    r.1,
-    go (word_of (codes "END")) r.0 (Head ds ss k)
-        (k ds ss) sort.EndWord is_end refl ∙ r.2,
-  )
-  ends (Body EndOfProgram ss k) = let r = ends (k ss) in
-      (word_of (codes "END") ∷ r.0, r.1, go (word_of (codes "END")) r.0 (Body EndOfProgram ss k) (k ss) sort.EndWord is_end refl ∙ r.2)
-  ends (Body EndOfDo ss k) = let r = ends (k ss) in (
-    word_of (codes "ENDDO") ∷ r.0,
-    r.1,
-    go (word_of (codes "ENDDO")) r.0
-        (Body EndOfDo ss k) (k ss) sort.EndDoWord is_end_do refl ∙ r.2,
-  )
-  ends (Body EndOfForall ss k) = let r = ends (k ss) in (
-    word_of (codes "ENDFORALL") ∷ r.0,
-    r.1,
-    go (word_of (codes "ENDFORALL")) r.0
-        (Body EndOfForall ss k) (k ss) sort.EndForallWord is_end_forall refl ∙ r.2,
-  )
-  ends (Close EndOfProgram s) = let r = ends s in (
-    word_of (codes "END") ∷ r.0,
-    r.1,
-    go (word_of (codes "END")) r.0 (Close EndOfProgram s)
-        s sort.EndWord is_end refl ∙ r.2,
-  )
-  ends (Close EndOfDo s) = let r = ends s in (
-    word_of (codes "ENDDO") ∷ r.0,
-    r.1,
-    go (word_of (codes "ENDDO")) r.0 (Close EndOfDo s) s
-        sort.EndDoWord is_end_do refl ∙ r.2,
-  )
-  ends (Close EndOfForall s) = let r = ends s in (
-    word_of (codes "ENDFORALL") ∷ r.0,
-    r.1,
-    go (word_of (codes "ENDFORALL")) r.0
-        (Close EndOfForall s) s sort.EndForallWord is_end_forall refl ∙ r.2,
-  )
+  ends (Take f s) = let r = ends s in (placeless (fixed_kind f) ∷ r.0, r.1, takes f s r.0 ∙ r.2)
+  ends (InForm k) = by_word (codes "BLOCK") sort.BlockWord (InForm k) (Then (k form.Block)) refl refl
+      (ends_then (k form.Block) (ends_calm (k form.Block)))
+  ends (Operator k) = by_word (codes "ADD") sort.AddWord (Operator k) (k Add) refl refl (ends (k Add))
+  ends (Head ds ss k) = by_word (codes "END") sort.EndWord (Head ds ss k) (k ds ss) refl refl (ends (k ds ss))
+  ends (Body EndOfProgram ss k) = by_word (codes "END") sort.EndWord (Body EndOfProgram ss k) (k ss) refl refl (ends (k ss))
+  ends (Body EndOfDo ss k) = by_word (codes "ENDDO") sort.EndDoWord (Body EndOfDo ss k) (k ss) refl refl (ends (k ss))
+  ends (Body EndOfForall ss k) = by_word (codes "ENDFORALL") sort.EndForallWord (Body EndOfForall ss k) (k ss) refl refl (ends (k ss))
+  ends (Close EndOfProgram s) = by_word (codes "END") sort.EndWord (Close EndOfProgram s) s refl refl (ends s)
+  ends (Close EndOfDo s) = by_word (codes "ENDDO") sort.EndDoWord (Close EndOfDo s) s refl refl (ends s)
+  ends (Close EndOfForall s) = by_word (codes "ENDFORALL") sort.EndForallWord (Close EndOfForall s) s refl refl (ends s)
   ends (FirstInner index k) =
       let r = ends (k (inner_statement ∷ [])) in (
         inner_tokens ++ word_of (codes "ENDFORALL") ∷ r.0,
         r.1,
         reads_first_inner (an_inner index) k (word_of (codes "ENDFORALL") ∷ r.0)
-            ∙ forall_closes index (end_forall_word (word_of (codes "ENDFORALL")) is_end_forall) (inner_statement ∷ []) k r.0 ∙ r.2,
+            ∙ forall_closes index (end_forall_word (word_of (codes "ENDFORALL")) (is_reserved (codes "ENDFORALL") sort.EndForallWord refl))
+            (inner_statement ∷ []) k r.0 ∙ r.2,
       )
-  ends (MoreInner index xs k) = let r = ends (k xs) in (
-    word_of (codes "ENDFORALL") ∷ r.0,
-    r.1,
-    go (word_of (codes "ENDFORALL")) r.0
-        (MoreInner index xs k) (k xs) sort.EndForallWord is_end_forall refl ∙ r.2,
-  )
-  ends (Begin s) = let r = ends s in (
-    word_of (codes "PROGRAM") ∷ r.0,
-    r.1,
-    go (word_of (codes "PROGRAM")) r.0
-        (Begin s) s sort.ProgramWord is_program_word refl ∙ r.2,
-  )
+  ends (MoreInner index xs k) = by_word (codes "ENDFORALL") sort.EndForallWord (MoreInner index xs k) (k xs) refl refl (ends (k xs))
+  ends (Begin s) = by_word (codes "PROGRAM") sort.ProgramWord (Begin s) s refl refl (ends s)
   ends (Ended p) = ([], p, refl)
-  ends (Then c) = let r = ends_calm c in (marked r.0 ∷ r.1, r.2, r.3)
+  ends (Then c) = ends_then c (ends_calm c)
 
   ends_calm : (c : Calm) → EndsCalm c
   ends_calm (MoreScalarFactors x k) = let r = ends_calm (k x) in (r.0, r.1, r.2, factors_pass r.0 x k r.1 ∙ r.3)

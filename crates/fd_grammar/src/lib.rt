@@ -8,5 +8,7 @@ mod sort;
 
 pub use law::programs_of_equal_tokens;
 pub use mark::{Fixed, Mark};
-pub use opening::{Heading, InnerOpening, Opening, heading_of, inner_opening_of, opening_of};
+pub use opening::{
+    Closer, Heading, InnerOpening, Opening, closing_of, heading_of, inner_opening_of, opening_of,
+};
 pub use sort::{Sort, is_word, name_of, opens, sign_of, sort_of, times_of};

@@ -13,21 +13,6 @@ pub enum Mark {
     With,
 }
 
-impl Mark {
-    pub fn is(self, sort: Sort) -> bool
-        ensures { result ≡ is_mark self sort }
-    {
-        match (self, sort) {
-            (Mark::Close, Sort::Close) => true,
-            (Mark::Comma, Sort::Comma) => true,
-            (Mark::Equals, Sort::Equals) => true,
-            (Mark::Line, Sort::LineEnd) => true,
-            (Mark::With, Sort::WithWord) => true,
-            _ => false,
-        }
-    }
-}
-
 /// A token that stands behind a word or a name.
 #[derive(Clone, Copy, Debug, PartialEq, Eq)]
 pub enum Fixed {
@@ -36,6 +21,21 @@ pub enum Fixed {
     Eight,
     Do,
     Forall,
+}
+
+impl Mark {
+    pub fn is(self, sort: Sort) -> bool
+        ensures { result ≡ is_mark self sort }
+    {
+        matches!(
+            (self, sort),
+            (Mark::Close, Sort::Close)
+                | (Mark::Comma, Sort::Comma)
+                | (Mark::Equals, Sort::Equals)
+                | (Mark::Line, Sort::LineEnd)
+                | (Mark::With, Sort::WithWord)
+        )
+    }
 }
 
 impl Fixed {

@@ -1,6 +1,7 @@
 ghost use Rattle.std.specs.Prelude.{◌≡◌};
-ghost use Rattle.fd_grammar.specs.Machine.{heading_of, opening_of, inner_opening_of};
+ghost use Rattle.fd_grammar.specs.Machine.{heading_of, opening_by, inner_opening_of, closing_of};
 
+use crate::mark::Fixed;
 use crate::sort::Sort;
 use fd_words::Name;
 
@@ -44,7 +45,7 @@ pub enum Opening {
 }
 
 pub fn opening_of(sort: Sort) -> Option<Opening>
-    ensures { result ≡ opening_of sort }
+    ensures { result ≡ opening_by sort }
 {
     match sort {
         Sort::LineEnd => Some(Opening::Blank),
@@ -71,6 +72,28 @@ pub fn inner_opening_of(sort: Sort) -> Option<InnerOpening>
         Sort::LineEnd => Some(InnerOpening::Blank),
         Sort::Named(name) => Some(InnerOpening::Assigns(name)),
         Sort::ReduceWord => Some(InnerOpening::Reduces),
+        _ => None,
+    }
+}
+
+/// What has statements that something ends.
+#[derive(Clone, Copy, Debug, PartialEq, Eq)]
+pub enum Closer {
+    EndOfProgram,
+    EndOfDo,
+    EndOfForall,
+}
+
+/// What has to follow a word that ends such statements, if anything.
+pub fn closing_of(closer: Closer, sort: Sort) -> Option<Option<Fixed>>
+    ensures { result ≡ closing_of closer sort }
+{
+    match (closer, sort) {
+        (Closer::EndOfDo, Sort::EndDoWord) => Some(None),
+        (Closer::EndOfDo, Sort::EndWord) => Some(Some(Fixed::Do)),
+        (Closer::EndOfForall, Sort::EndForallWord) => Some(None),
+        (Closer::EndOfForall, Sort::EndWord) => Some(Some(Fixed::Forall)),
+        (Closer::EndOfProgram, Sort::EndWord) => Some(None),
         _ => None,
     }
 }

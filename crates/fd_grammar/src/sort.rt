@@ -1,5 +1,5 @@
 ghost use Rattle.std.specs.Prelude.{◌≡◌, map, bytes_eq};
-ghost use Rattle.fd_grammar.specs.Sorts.{sort_in, sort_of_word, sort_of, is_word, name_of, sign_of, times_of, opens};
+ghost use Rattle.fd_grammar.specs.Sorts.{sort_in, sort_of_word, sort_of, is_word, name_of, sign_by, times_of, opens};
 
 use fd_lexer::TokenKind;
 use fd_words::{Arith, Name};
@@ -30,13 +30,13 @@ pub enum Sort {
     MaxWord,
     Named(Name),
     Numbered(i64),
+    Plus,
+    Minus,
+    Star,
     Open,
     Close,
     Comma,
     Equals,
-    Plus,
-    Minus,
-    Star,
     LineEnd,
 }
 
@@ -127,7 +127,7 @@ pub fn name_of(sort: Sort) -> Option<Name>
 
 /// The operator between terms.
 pub fn sign_of(sort: Sort) -> Option<Arith>
-    ensures { result ≡ sign_of sort }
+    ensures { result ≡ sign_by sort }
 {
     match sort {
         Sort::Plus => Some(Arith::Plus),

@@ -20,7 +20,7 @@ use Rattle.fd_lexer.specs.declared.piece.Opening.TheVariants.{Digit, Letter, Sig
 use Rattle.fd_lexer.specs.declared.piece.Piece.{Piece}
 use Rattle.fd_lexer.specs.declared.piece.Piece.TheVariants.{Gap, Lexeme, Fault}
 use Rattle.fd_lexer.specs.Bytes.{is_blank, is_inside_line, is_word_byte, is_listed, greatest}
-use Rattle.fd_lexer.specs.Piece.{sign_of, sign_or_unlisted, opening_of, number_of, number_or_fault, number_piece, word_piece, piece_of}
+use Rattle.fd_lexer.specs.Piece.{sign_byte, sign_or_unlisted, opening_of, number_of, number_or_fault, number_piece, word_piece, piece_of}
 use Rattle.fd_lexer.specs.Piece.{piece_at}
 use Rattle.fd_lexer.specs.Place.{place_of}
 use Rattle.fd_lexer.specs.Tokens.{Ends, IsNumber, IsWord, Spells, IsGap, blank, comment, IsGapAt, IsTokenAt, ShowsFault, IsFaultAt}
@@ -131,7 +131,7 @@ other_byte b c unlisted listed =
 skip : {A : Type 0} (t : Bool) (x y z : A) → t ≡ false → y ≡ z → cond t x y ≡ z
 skip t x y z e f = cond-false t x y e ∙ f
 
-no_sign : (b : ℕ) → is_listed b ≡ false → sign_of b ≡ None
+no_sign : (b : ℕ) → is_listed b ≡ false → sign_byte b ≡ None
 no_sign b h =
     skip _ _ _ _ (other_byte b 10 h refl) (skip _ _ _ _ (other_byte b 40 h refl) (skip _ _ _ _ (other_byte b 41 h refl)
     (skip _ _ _ _ (other_byte b 42 h refl) (skip _ _ _ _ (other_byte b 43 h refl) (skip _ _ _ _ (other_byte b 44 h refl)

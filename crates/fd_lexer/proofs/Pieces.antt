@@ -11,7 +11,7 @@ use Rattle.fd_lexer.specs.declared.piece.Opening.{Opening}
 use Rattle.fd_lexer.specs.declared.piece.Piece.{Piece}
 use Rattle.fd_lexer.specs.declared.piece.Piece.TheVariants.{Nothing, Gap, Lexeme, Fault}
 use Rattle.fd_lexer.specs.Bytes.{is_blank, is_inside_line, is_word_byte}
-use Rattle.fd_lexer.specs.Piece.{sign_of, sign_or_unlisted, opening_of, number_or_fault, word_piece, piece_of, piece_at}
+use Rattle.fd_lexer.specs.Piece.{sign_byte, sign_or_unlisted, opening_of, number_or_fault, word_piece, piece_of, piece_at}
 use Rattle.fd_lexer.specs.Tokens.{opens_line}
 
 pub record StaysInLine (len : ℕ) (rest : List ℕ) : Type 0 where
@@ -74,7 +74,7 @@ module _ (b : ℕ) (more : List ℕ) (inside : is_inside_line b ≡ true) where
   abbrev OpensSign : Option TokenKind → Type 0
   OpensSign sign = Opens (sign_or_unlisted sign)
 
-  sign_passes : (b == 10) ≡ false → OpensSign (sign_of b)
+  sign_passes : (b == 10) ≡ false → OpensSign (sign_byte b)
   sign_passes other =
       let one = one_stays b more inside in
       cond_both (b == 10) _ _ OpensSign (λ e. cc) (λ _.

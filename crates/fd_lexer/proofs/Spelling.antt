@@ -13,7 +13,7 @@ use Rattle.fd_lexer.specs.declared.piece.Opening.{Opening}
 use Rattle.fd_lexer.specs.declared.piece.Piece.{Piece}
 use Rattle.fd_lexer.specs.declared.piece.Piece.TheVariants.{Nothing, Gap, Lexeme, Fault}
 use Rattle.fd_lexer.specs.Bytes.{is_blank, is_inside_line, is_word_byte, greatest}
-use Rattle.fd_lexer.specs.Piece.{sign_of, sign_or_unlisted, opening_of, number_or_fault, number_piece, word_piece, piece_of, piece_at}
+use Rattle.fd_lexer.specs.Piece.{sign_byte, sign_or_unlisted, opening_of, number_or_fault, number_piece, word_piece, piece_of, piece_at}
 use Rattle.fd_lexer.specs.Tokens.{Ends, Spells, IsGap, blank, comment, ShowsFault}
 use Rattle.fd_lexer.proofs.Pieces.{letter_in_word}
 
@@ -93,7 +93,8 @@ module _ (b : ℕ) (more : List ℕ) where
   one : (c : ℕ) → (b == c) ≡ true → b ∷ [] ≡ c ∷ []
   one c e = ap (λ x. x ∷ []) (eqb-true b c e)
 
-  sign_spelled : is_blank b ≡ false → is_ascii_digit b ≡ false → is_ascii_alphabetic b ≡ false → (b == 33) ≡ false → OpenedSign (sign_of b)
+  sign_spelled : is_blank b ≡ false → is_ascii_digit b ≡ false → is_ascii_alphabetic b ≡ false → (b == 33) ≡ false
+      → OpenedSign (sign_byte b)
   sign_spelled e9 digit letter e33 =
       let blanks = or_parts _ _ e9 in
       let tabs = or_parts _ _ blanks.0 in

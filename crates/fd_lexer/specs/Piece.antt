@@ -14,8 +14,8 @@ use Rattle.fd_lexer.specs.declared.piece.Piece.{Piece}
 use Rattle.fd_lexer.specs.declared.piece.Piece.TheVariants.{Nothing, Gap, Lexeme, Fault}
 
 -- the token of one byte
-abbrev pub sign_of : ℕ → Option TokenKind
-sign_of byte =
+abbrev pub sign_byte : ℕ → Option TokenKind
+sign_byte byte =
     if byte == 10 then Some LineEnd else (
     if byte == 40 then Some OpenParen else (
     if byte == 41 then Some CloseParen else (
@@ -35,7 +35,7 @@ opening_of byte =
     if is_blank byte then Blank else (
     if is_ascii_digit byte then Digit else (
     if is_ascii_alphabetic byte then Letter else (
-    if byte == 33 then Comment else sign_or_unlisted (sign_of byte))))
+    if byte == 33 then Comment else sign_or_unlisted (sign_byte byte))))
 
 -- the number that digits write, up to the greatest
 abbrev pub number_of : List ℕ → Option ℤ

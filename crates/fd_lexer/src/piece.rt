@@ -2,7 +2,7 @@ ghost use Rattle.std.specs.Prelude.{◌≡◌, ◌≤◌, length, map, slice_ind
 ghost use Rattle.std.specs.List.{prefix_len};
 ghost use Rattle.std.specs.Char.{to_ascii_uppercase, is_ascii_digit};
 ghost use Rattle.fd_lexer.specs.Bytes.{is_blank, is_word_byte, is_inside_line};
-ghost use Rattle.fd_lexer.specs.Piece.{sign_of, opening_of, number_of, number_piece, word_piece, piece_at};
+ghost use Rattle.fd_lexer.specs.Piece.{sign_byte, opening_of, number_of, number_piece, word_piece, piece_at};
 
 use crate::TokenKind;
 use fd_words::{Name, SourceCause};
@@ -41,7 +41,7 @@ fn is_word_byte(byte: u8) -> bool
 
 /// The token of one byte.
 fn sign_of(byte: u8) -> Option<TokenKind>
-    ensures { result ≡ sign_of byte }
+    ensures { result ≡ sign_byte byte }
 {
     match byte {
         b'\n' => Some(TokenKind::LineEnd),

@@ -2,7 +2,7 @@
 use Rattle.std.proofs.Common.{◌≡◌, ℕ, ◌+◌, ◌<◌, ◌≤◌, List, [], ◌∷◌, ◌++◌, length, take, drop, get_or, refl, ap, sym, ◌∙◌, subst, take_all}
 use Rattle.std.proofs.Common.{Err, arith}
 use Rattle.std.proofs.lemmas.List.{drop_more, take_more, take-append-drop}
-use Rattle.fd_outside.specs.Causes.{Rose, NoneFell}
+use Rattle.fd_outside.specs.Causes.{NoneFell}
 use Rattle.std.specs.Prelude.{ℤ, Ok, fold, zip}
 use Rattle.chaos_dist.specs.Homes.{natural}
 use Rattle.fd_program.specs.Stores.{array_at, zeros_of, filled}
@@ -10,7 +10,7 @@ use Rattle.fd_program.specs.declared.array.ArrayFacts.{ArrayFacts}
 use Rattle.fd_program.specs.declared.checked.Checked.{Checked}
 use Rattle.fd_edge.specs.Readings.{Told, Counts, reading, rose_within}
 use Rattle.fd_load.specs.Files.{file_of, ReadsArray, HasArrayFault}
-use Rattle.fd_load.specs.Loads.{AllRead, IsLoaded, IsFilled}
+use Rattle.fd_load.specs.Loads.{AllRead, IsArrayReached, IsLoaded, IsFilled}
 use Rattle.fd_load.specs.declared.store.LoadStop.{LoadStop}
 use Rattle.fd_load.specs.declared.store.LoadStop.TheVariants.{Unread, Fault, Memory}
 
@@ -56,6 +56,19 @@ loaded_more contents c numbers store after number values l one e = record {
 take_next : (all : List ℤ) (i : ℕ) (d : ℤ) → i < length all → all ≡ take i all ++ get_or all i d ∷ drop (i + 1) all
 take_next all i d less = sym (take-append-drop i all) ∙ ap (λ rest. take i all ++ rest) (drop_more all i d less)
 
+reached : (contents : Told) (c : Checked) (reads : List ℤ) (i : ℕ) (d : ℤ) (store : List (List ℤ)) (array : ℕ)
+    → reads ≡ c.reads → i < length reads → Loaded contents c (take i reads) store → array ≡ natural (get_or reads i d)
+    → IsArrayReached contents c array
+reached contents c reads i d store array same less l is = record {
+  before = take i reads;
+  number = get_or reads i d;
+  after = drop (i + 1) reads;
+  split = sym same ∙ take_next reads i d less;
+  is = is;
+  lists = l.lists;
+  read = l.read;
+}
+
 -- the first array whose file gave no numbers
 pub stopped : (contents middle_contents : Told) (before middle now : Counts) (c : Checked) (reads : List ℤ) (i : ℕ) (d : ℤ)
     (store after : List (List ℤ)) (stop : LoadStop)
@@ -64,27 +77,11 @@ pub stopped : (contents middle_contents : Told) (before middle now : Counts) (c 
     (Err stop)
 stopped contents middle_contents before middle now c reads i d store after (Unread array) same less l same_contents later f =
     let name = file_of (array_at c.arrays array) in (
-      record {
-        before = take i reads;
-        number = get_or reads i d;
-        after = drop (i + 1) reads;
-        split = sym same ∙ take_next reads i d less;
-        is = f.0;
-        lists = l.lists;
-        read = l.read;
-      },
+      reached contents c reads i d store array same less l f.0,
       rose_within (before name) (middle name) (now name) (now name) (later name) (omega arith) f.1,
     )
 stopped contents middle_contents before middle now c reads i d store after (Fault array fault) same less l same_contents later f = (
-  record {
-    before = take i reads;
-    number = get_or reads i d;
-    after = drop (i + 1) reads;
-    split = sym same ∙ take_next reads i d less;
-    is = f.0;
-    lists = l.lists;
-    read = l.read;
-  },
+  reached contents c reads i d store array same less l f.0,
   subst (λ told. HasArrayFault told (array_at c.arrays array) fault) same_contents f.1,
 )
 stopped contents middle_contents before middle now c reads i d store after Memory same less l same_contents later f = tt

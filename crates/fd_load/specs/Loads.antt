@@ -19,7 +19,7 @@ AllRead contents arrays (number ∷ numbers) (values ∷ lists) =
     ReadsArray contents (array_at arrays (natural number)) (Ok values) × AllRead contents arrays numbers lists
 
 -- this array is read, and the files of all that are read before it have numbers
-pub record IsReached (contents : Told) (c : Checked) (array : ℕ) : Type 0 where
+pub record IsArrayReached (contents : Told) (c : Checked) (array : ℕ) : Type 0 where
   pub before : List ℤ
   pub number : ℤ
   pub after : List ℤ
@@ -35,8 +35,8 @@ ArrayFailed r c array = Rose (r.before (file_of (array_at c.arrays array))) (r.n
 -- what comes of the files of a program
 abbrev pub IsLoaded : Reading → Checked → Result (List (List ℤ)) LoadStop → Type 0
 IsLoaded r c (Ok store) = (lists : List (List ℤ)) × (AllRead r.contents c.arrays c.reads lists × (store ≡ initial_store c lists))
-IsLoaded r c (Err (Unread array)) = IsReached r.contents c array × ArrayFailed r c array
-IsLoaded r c (Err (Fault array fault)) = IsReached r.contents c array × HasArrayFault r.contents (array_at c.arrays array) fault
+IsLoaded r c (Err (Unread array)) = IsArrayReached r.contents c array × ArrayFailed r c array
+IsLoaded r c (Err (Fault array fault)) = IsArrayReached r.contents c array × HasArrayFault r.contents (array_at c.arrays array) fault
 IsLoaded r c (Err Memory) = Unit {0}
 
 -- what comes of one array's file, and of the store

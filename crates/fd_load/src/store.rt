@@ -1,4 +1,4 @@
-ghost use Rattle.std.specs.Prelude.{◌≡◌, ◌+◌, ◌*◌, ◌≤◌, length, replicate, pos, IfOk};
+ghost use Rattle.std.specs.Prelude.{◌≡◌, ◌+◌, ◌*◌, ◌≤◌, length, IfOk};
 ghost use Rattle.fd_outside.specs.Causes.{NoneFell};
 ghost use Rattle.fd_program.specs.Stores.{array_at, zeros_of};
 ghost use Rattle.chaos_dist.specs.Homes.{natural};
@@ -25,22 +25,17 @@ pub enum LoadStop {
 pub fn array_at(checked: &Checked, array: u64) -> ArrayFacts
     ensures { result ≡ array_at checked.now.arrays array }
 {
-    match checked.arrays.as_slice().get(array as usize) {
-        Some(facts) => *facts,
-        None => ArrayFacts {
+    checked
+        .arrays
+        .as_slice()
+        .get(array as usize)
+        .copied()
+        .unwrap_or(ArrayFacts {
             name: Name::new(),
             extent: 0,
             decomposition: 0,
             offset: 0,
-        },
-    }
-}
-
-fn zeros(alloc: Global, extent: u64) -> Result<Numbers, Memory>
-    ensures { IfOk result (λ list. list ≡ replicate extent (pos 0)) }
-{
-    let zeros = vec![in alloc; 0i64; extent as usize]?;
-    Ok(Numbers::from_vec(zeros))
+        })
 }
 
 fn zero_store(alloc: Global, checked: &Checked) -> Result<Store, Memory>
@@ -49,7 +44,7 @@ fn zero_store(alloc: Global, checked: &Checked) -> Result<Store, Memory>
     let mut store = Store::new(alloc);
     let arrays = checked.arrays.as_slice();
     for facts in arrays {
-        store.push(zeros(alloc, facts.extent)?)?;
+        store.push(Numbers::zeros(alloc, facts.extent)?)?;
     }
     Ok(store)
 }

@@ -16,7 +16,7 @@ use Rattle.fd_scope.specs.Faults.{fault_if}
 use Rattle.fd_loops.specs.declared.draft.Draft.{Draft}
 use Rattle.fd_resolve.specs.declared.around.Around.{Around}
 use Rattle.fd_loops.specs.Drafts.{is_crowded, with_reference, next_number, crowd_faults, stamp_for, after_stamp, stamp_faults}
-use Rattle.fd_resolve.specs.Resolve.{array_of, array_or_first, array_unknown, offset_resolved, subscript_resolved, subscript_unknowns}
+use Rattle.fd_resolve.specs.Resolve.{array_called, array_or_first, array_unknown, offset_resolved, subscript_resolved, subscript_unknowns}
 use Rattle.fd_resolve.specs.Resolve.{subscript_marks}
 
 -- ---- the index reference, directly before the reference whose subscript it gives
@@ -63,18 +63,18 @@ own_reference h a d role e = record {
   role = role;
   array = array_or_first h a e.name;
   subscript = subscript_resolved h a e.subscript;
-  stamp = own_stamp h a d e.subscript (array_of h a e.name);
+  stamp = own_stamp h a d e.subscript (array_called h a e.name);
 }
 
 abbrev pub after_own : Head → Around → Role → Draft → Element → Draft
 after_own h a role d e =
     if is_crowded d then d
-    else with_reference (after_own_stamp h a d e.subscript (array_of h a e.name)) (own_reference h a d role e)
+    else with_reference (after_own_stamp h a d e.subscript (array_called h a e.name)) (own_reference h a d role e)
 
 -- TooManyReferences: this is the 65th, and not its index reference
 abbrev pub own_faults : Head → Around → Bool → Draft → Element → List SourceFault
 own_faults h a is_noted d e =
-    fault_if (is_crowded d && not is_noted) e.at cause.TooManyReferences ++ own_stamp_faults h a d e (array_of h a e.name)
+    fault_if (is_crowded d && not is_noted) e.at cause.TooManyReferences ++ own_stamp_faults h a d e (array_called h a e.name)
 
 -- ---- an element
 

@@ -1,7 +1,7 @@
 -- The mesh's source from that of a sweep, and a small mesh worked out.
 use Rattle.std.specs.Prelude.{◌≡◌, ℕ, List, [], ◌∷◌, ◌++◌, codes, slice_set, refl}
 use Rattle.std.proofs.Common.{take, drop}
-use Rattle.fd_mesh.specs.Source.{joined, sizes, declarations, sweeps, reductions, mesh_lines}
+use Rattle.fd_mesh.specs.Source.{sizes, declarations, sweep, sweeps, reductions, mesh_lines}
 use Rattle.fd_mesh.specs.Mesh.{map_of, ends_of}
 
 -- ten sweeps over the edges of a cube
@@ -17,17 +17,7 @@ sweep_lines =
     ∷ codes "OUTPUT X"
     ∷ codes "DISTRIBUTE P(M)"
     ∷ codes "DO K = 1, 10"
-    ∷ codes "FORALL I = 1, NE"
-    ∷ codes "REDUCE(ADD, F(E1(I)), X(E2(I)) - X(E1(I)))"
-    ∷ codes "REDUCE(ADD, F(E2(I)), X(E1(I)) - X(E2(I)))"
-    ∷ codes "END FORALL"
-    ∷ codes "FORALL I = 1, NP"
-    ∷ codes "X(I) = X(I) + F(I)"
-    ∷ codes "F(I) = 0"
-    ∷ codes "END FORALL"
-    ∷ codes "END DO"
-    ∷ codes "END"
-    ∷ []
+    ∷ (sweep ++ codes "END" ∷ [])
 
 -- five lines before the last
 unfoldable pub gathered : List (List ℕ)
@@ -52,7 +42,7 @@ unfoldable pub sweep_for : ℕ → List (List ℕ)
 sweep_for size = take 19 (renewed size) ++ (gathered ++ drop 19 (renewed size))
 
 pub a_changed_sweep : (size : ℕ) → mesh_lines size ≡ sweep_for size
-unfolding mesh_lines declarations sweeps reductions sweep_lines gathered renewed sweep_for
+unfolding mesh_lines declarations sweep sweeps reductions sweep_lines gathered renewed sweep_for
 a_changed_sweep size = refl
 
 pub map_of_eight : map_of 0 8 ≡ 7 ∷ 14 ∷ 21 ∷ 28 ∷ 35 ∷ 42 ∷ 49 ∷ 56 ∷ []

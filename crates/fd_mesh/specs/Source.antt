@@ -21,10 +21,10 @@ declarations =
     ∷ codes "DISTRIBUTE P(M)"
     ∷ []
 
-unfoldable pub sweeps : List (List ℕ)
-sweeps =
-    codes "DO K = 1, 4"
-    ∷ codes "FORALL I = 1, NE"
+-- a sweep, and the end of the DO that repeats it
+unfoldable pub sweep : List (List ℕ)
+sweep =
+    codes "FORALL I = 1, NE"
     ∷ codes "REDUCE(ADD, F(E1(I)), X(E2(I)) - X(E1(I)))"
     ∷ codes "REDUCE(ADD, F(E2(I)), X(E1(I)) - X(E2(I)))"
     ∷ codes "END FORALL"
@@ -34,6 +34,9 @@ sweeps =
     ∷ codes "END FORALL"
     ∷ codes "END DO"
     ∷ []
+
+unfoldable pub sweeps : List (List ℕ)
+sweeps = codes "DO K = 1, 4" ∷ sweep
 
 -- the sum, the least and the greatest
 unfoldable pub reductions : List (List ℕ)

@@ -195,6 +195,15 @@ changed_at change files all i d name h e left =
     ∙ ap (λ (ys : List MemoryFile). take i files ++ changed_in change ys name) (sym (drop_more files i d h))
     ∙ left
 
+-- the same of a file that is held at its place
+pub changed_held : (change : MemoryFile → MemoryFile) (files all : List MemoryFile) (i : ℕ) (f : MemoryFile) (name : List ℕ)
+    → i < length files → get_or files i f ≡ f → bytes_eq f.name name ≡ true
+    → take i files ++ changed_in change (drop i files) name ≡ changed_in change all name
+    → slice_set files i (change f) ≡ changed_in change all name
+changed_held change files all i f name h is same left =
+    ap (λ (g : MemoryFile). slice_set files i (change g)) (sym is)
+    ∙ changed_at change files all i f name h (ap (λ (g : MemoryFile). bytes_eq g.name name) is ∙ same) left
+
 pub pushed_contents : (fs now : List MemoryFile) (f : MemoryFile) (name : List ℕ) → now ≡ fs ++ f ∷ [] → f.name ≡ name
     → bytes_in fs name ≡ None
     → bytes_in now ≡ with_contents (bytes_in fs) name f.bytes

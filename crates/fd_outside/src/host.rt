@@ -14,6 +14,13 @@ pub struct HostFiles<'a, Rt> {
     faults: u64,
 }
 
+/// Standard output. A write that fails, or that takes nothing of a piece, is a fault.
+#[derive(Drop)]
+pub struct HostSink<'a, Rt> {
+    rt: &'a Rt,
+    faults: u64,
+}
+
 impl<'a, Rt: std::rt::Files> HostFiles<'a, Rt> {
     pub fn new(rt: &'a Rt) -> HostFiles<'a, Rt>
         ensures { read_faults result ≡ 0 }
@@ -46,13 +53,6 @@ impl<'a, Rt: std::rt::Files> Files for HostFiles<'a, Rt> {
             }
         }
     }
-}
-
-/// Standard output. A write that fails, or that takes nothing of a piece, is a fault.
-#[derive(Drop)]
-pub struct HostSink<'a, Rt> {
-    rt: &'a Rt,
-    faults: u64,
 }
 
 impl<'a, Rt: Print> HostSink<'a, Rt> {

@@ -52,8 +52,7 @@ fn read_on<F: Files>(
     ensures short { IfOk result (λ b. length b ≤ limit) }
     ensures long { result ≡ Err ReadStop.TooLong → IfSome (F.contents files.old name.now) (λ held. limit < length held) }
     ensures failed { result ≡ Err ReadStop.Failed → Rose (F.faults files.old name.now) (F.faults files.new name.now) }
-    ensures same { F.contents files.new ≡ F.contents files.old }
-    ensures later { NoneFell (F.faults files.old) (F.faults files.new) }
+    ensures files { (F.contents files.new ≡ F.contents files.old) × NoneFell (F.faults files.old) (F.faults files.new) }
     ensures counted { F.reads files.new ≤ F.reads files.old + limit + 2 }
 {
     let mut whole = Bytes::new(alloc);

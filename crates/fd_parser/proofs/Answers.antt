@@ -6,7 +6,7 @@ use Rattle.fd_words.specs.declared.source.SourcePlace.{SourcePlace}
 use Rattle.fd_lexer.specs.declared.token.Token.{Token}
 use Rattle.fd_syntax.specs.declared.program.Program.{Program}
 use Rattle.fd_grammar.specs.Machine.{State, after, run, start}
-use Rattle.fd_grammar.specs.Grammar.{HasTokens, CanBegin}
+use Rattle.fd_grammar.specs.Grammar.{IsWrittenAs, CanBegin}
 use Rattle.fd_grammar.specs.Complete.{reads_program}
 use Rattle.fd_grammar.specs.Sound.{spelled}
 use Rattle.fd_grammar.specs.Viable.{cut_of, ends}
@@ -69,14 +69,8 @@ front_of (x ∷ b) t (y ∷ c) u a e =
     (r.0, ap (λ l. x ∷ l) r.1 ∙ ap (λ z. z ∷ (c ++ r.0)) same)
 
 pub all_shallow : (ts : List Token) (t : Token) → Shallow no_depth ts → IsUnexpected ts t → IsFirstUnexpected ts t
-all_shallow ts t s u = record {
-  before = u.before;
-  after = u.after;
-  split = u.split;
-  begins = u.begins;
-  stops = u.stops;
-  shallow = shallow_front no_depth u.before (t ∷ u.after) (subst (λ l. Shallow no_depth l) u.split s);
-}
+all_shallow ts t s u =
+    record { is = u; shallow = shallow_front no_depth u.before (t ∷ u.after) (subst (λ l. Shallow no_depth l) u.split s) }
 
 part_of : (ts : List Token) (i : ℕ) (d : IsDeepAt ts i) → take (i + 1) ts ≡ d.before ++ d.token ∷ []
 part_of ts i d =
@@ -88,13 +82,11 @@ part_of ts i d =
 pub unexpected_first : (ts : List Token) (i : ℕ) (t : Token) → IsDeepAt ts i → IsUnexpected (take (i + 1) ts) t → IsFirstUnexpected ts t
 unexpected_first ts i t d u =
     let r = front_of d.before d.token u.before t u.after (sym (part_of ts i d) ∙ u.split) in
+    let split : ts ≡ u.before ++ t ∷ (u.after ++ d.after) =
+    d.split ∙ sym (append_assoc d.before (d.token ∷ []) d.after) ∙ ap (λ l. l ++ d.after) (sym (part_of ts i d) ∙ u.split)
+    ∙ append_assoc u.before (t ∷ u.after) d.after in
     record {
-      before = u.before;
-      after = u.after ++ d.after;
-      split = d.split ∙ sym (append_assoc d.before (d.token ∷ []) d.after) ∙ ap (λ l. l ++ d.after) (sym (part_of ts i d) ∙ u.split)
-          ∙ append_assoc u.before (t ∷ u.after) d.after;
-      begins = u.begins;
-      stops = u.stops;
+      is = record { before = u.before; after = u.after ++ d.after; split = split; begins = u.begins; stops = u.stops };
       shallow = shallow_front no_depth u.before r.0 (subst (λ l. Shallow no_depth l) r.1 d.is.shallow);
     }
 
@@ -113,7 +105,7 @@ deep_first ts i t x d e b =
     }
 
 pub program_begins : (ts : List Token) (p : Program) → IsTheProgram ts p → CanBegin ts
-program_begins ts p h = ([], p, subst (λ l. HasTokens p l) (sym (append-nil ts)) h.has)
+program_begins ts p h = ([], p, subst (λ l. IsWrittenAs p l) (sym (append-nil ts)) h.has)
 
 pub answer_shallow : (ts : List Token) (end : SourcePlace) (r : Result Program Trouble) → Shallow no_depth ts → IsAnyAnswer ts r
     → IsAnswer ts end (answer_to r end)

@@ -7,29 +7,33 @@ use Rattle.fd_words.specs.declared.source.SourceStop.{SourceStop}
 use Rattle.fd_words.specs.declared.source.SourceStop.TheVariants as stop
 use Rattle.fd_lexer.specs.declared.token.Token.{Token}
 use Rattle.fd_syntax.specs.declared.program.Program.{Program}
-use Rattle.fd_grammar.specs.Grammar.{HasTokens, CanBegin}
+use Rattle.fd_grammar.specs.Grammar.{IsWrittenAs, CanBegin}
 use Rattle.fd_parser.specs.Depth.{Shallow, IsDeep, no_depth}
 use Rattle.fd_parser.specs.declared.answer.Trouble.{Trouble}
 use Rattle.fd_parser.specs.declared.answer.Trouble.TheVariants as trouble
 
 -- the one program that has these tokens
 pub record IsTheProgram (ts : List Token) (p : Program) : Type 0 where
-  pub has : HasTokens p ts
-  pub only : (q : Program) → HasTokens q ts → q ≡ p
+  pub has : IsWrittenAs p ts
+  pub only : (q : Program) → IsWrittenAs q ts → q ≡ p
 
 -- the tokens can begin a program and are none
 pub record EndsEarly (ts : List Token) : Type 0 where
   pub begins : CanBegin ts
-  pub no_program : (p : Program) → HasTokens p ts → ⊥
+  pub no_program : (p : Program) → IsWrittenAs p ts → ⊥
 
--- the tokens before this one can begin a program, and with it they cannot; none before it is too deep
-pub record IsFirstUnexpected (ts : List Token) (t : Token) : Type 0 where
+-- the tokens before this one can begin a program, and with it they cannot
+pub record IsUnexpected (ts : List Token) (t : Token) : Type 0 where
   pub before : List Token
   pub after : List Token
   pub split : ts ≡ before ++ t ∷ after
   pub begins : CanBegin before
   pub stops : CanBegin (before ++ t ∷ []) → ⊥
-  pub shallow : Shallow no_depth before
+
+-- and none before it is too deep
+pub record IsFirstUnexpected (ts : List Token) (t : Token) : Type 0 where
+  pub is : IsUnexpected ts t
+  pub shallow : Shallow no_depth is.before
 
 -- this is the first token that is too deep, and the tokens up to it can begin a program
 pub record IsFirstTooDeep (ts : List Token) (t : Token) : Type 0 where
@@ -53,14 +57,6 @@ IsAnswer ts end (Err (stop.Fault fault)) = IsFault ts end fault.at fault.cause
 IsAnswer ts end (Err stop.Memory) = Unit {0}
 
 -- the same, however deep the tokens are
-
-pub record IsUnexpected (ts : List Token) (t : Token) : Type 0 where
-  pub before : List Token
-  pub after : List Token
-  pub split : ts ≡ before ++ t ∷ after
-  pub begins : CanBegin before
-  pub stops : CanBegin (before ++ t ∷ []) → ⊥
-
 abbrev pub IsAnyAnswer : List Token → Result Program Trouble → Type 0
 IsAnyAnswer ts (Ok p) = IsTheProgram ts p
 IsAnyAnswer ts (Err trouble.Memory) = Unit {0}

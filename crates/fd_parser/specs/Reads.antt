@@ -6,7 +6,9 @@ use Rattle.fd_lexer.specs.declared.token.Token.{Token}
 use Rattle.fd_syntax.specs.declared.program.Program.{Program}
 use Rattle.fd_syntax.specs.declared.statement.Statement.{Statement}
 use Rattle.fd_syntax.specs.declared.statement.BodyStatement.{BodyStatement}
-use Rattle.fd_grammar.specs.Machine.{State, Closer, EndOfForall, Body, Close, FirstInner, Ended, run, start}
+use Rattle.fd_grammar.specs.declared.opening.Closer.{Closer}
+use Rattle.fd_grammar.specs.declared.opening.Closer.TheVariants.{EndOfForall}
+use Rattle.fd_grammar.specs.Machine.{State, Body, Close, FirstInner, Ended, run, start}
 
 -- The old rest has the statements before the end of a program or a DO, behind earlier ones, and then the new rest, or the new
 -- rest begins with the fault.

@@ -1,9 +1,8 @@
 ghost use Rattle.std.specs.Prelude.{◌≡◌, ◌≤◌, ◌<◌, true, List, [], ◌∷◌, length};
 ghost use Rattle.fd_expressions.specs.Reads.{Reads};
 ghost use Rattle.fd_parser.specs.Begun.{BehindItems};
-ghost use Rattle.fd_grammar.specs.Machine.{State, Item, Value, run, Then, wanted, InItem, InItems, MoreItems, ParameterItem, SizedItem};
-ghost use Rattle.fd_grammar.specs.Machine.{ListedItem, AlignedItem, ParameterRest, IntegerRest, DecompositionRest, AlignRest, AlignTarget};
-ghost use Rattle.fd_grammar.specs.Machine.{ReadRest, OutputRest};
+ghost use Rattle.fd_grammar.specs.Machine.{State, Item, Value, run, Then, InItem, InItems, MoreItems, ParameterItem, SizedItem};
+ghost use Rattle.fd_grammar.specs.Machine.{ListedItem, AlignedItem, ParameterRest, IntegerRest, AlignRest, AlignTarget};
 
 use fd_expressions::{Parser, Stop};
 use fd_grammar::{Fixed, Mark, sort_of};
@@ -29,6 +28,24 @@ fn comma(parser: &mut Parser<'_>) -> bool
     }
 }
 
+/// A list with commas, behind the first of it, and the mark that ends it.
+macro_rules! listed {
+    ($parser:ident, $one:expr, $mark:expr) => {
+        listed!($parser, $one, $one, $mark)
+    };
+    ($parser:ident, $first:expr, $one:expr, $mark:expr) => {{
+        let mut items = Items::new($parser.alloc);
+        let item = $first;
+        items.push(item)?;
+        while comma($parser) {
+            let item = $one;
+            items.push(item)?;
+        }
+        $parser.want($mark)?;
+        Ok(items)
+    }};
+}
+
 fn parameter(parser: &mut Parser<'_>) -> Result<Parameter, Stop>
     ensures shrinks { length parser.new.rest.now ≤ length parser.old.rest.now }
     ensures reads { Reads (InItem ParameterItem) (λ x k. Then (k x)) parser.old.rest.now parser.new.rest.now result }
@@ -43,18 +60,32 @@ fn parameter(parser: &mut Parser<'_>) -> Result<Parameter, Stop>
     })
 }
 
+/// The constants of a PARAMETER line, and the parenthesis behind them.
 fn parameters(parser: &mut Parser<'_>) -> Result<ParameterList, Stop>
     ensures shrinks { length parser.new.rest.now ≤ length parser.old.rest.now }
-    ensures reads { Reads (InItems ParameterItem) (λ xs k. wanted Mark.Close (k xs)) parser.old.rest.now parser.new.rest.now result }
+    ensures reads { Reads (InItems ParameterItem) (λ xs k. k xs) parser.old.rest.now parser.new.rest.now result }
 {
-    let mut items = Items::new(parser.alloc);
-    let first = parameter(parser)?;
-    items.push(first)?;
-    while comma(parser) {
-        let item = parameter(parser)?;
-        items.push(item)?;
-    }
-    Ok(items)
+    listed!(parser, parameter(parser)?, Mark::Close)
+}
+
+fn aligned(parser: &mut Parser<'_>, dummy: Name) -> Result<Listed, Stop>
+    ensures shrinks { length parser.new.rest.now ≤ length parser.old.rest.now }
+    ensures reads { Reads (InItem (AlignedItem dummy)) (λ x k. Then (k x)) parser.old.rest.now parser.new.rest.now result }
+{
+    let listed = parser.name()?;
+    parser.take(Fixed::Open)?;
+    parser.same_name(dummy)?;
+    parser.want(Mark::Close)?;
+    Ok(listed)
+}
+
+/// The arrays of an ALIGN from the second on, behind the first, and the word behind them.
+fn more_aligned(parser: &mut Parser<'_>, dummy: Name, first: Listed) -> Result<ListedList, Stop>
+    ensures shrinks { length parser.new.rest.now ≤ length parser.old.rest.now }
+    ensures reads { Reads (λ k. Then (MoreItems (AlignedItem dummy) (first ∷ []) k)) (λ xs k. k xs) parser.old.rest.now
+        parser.new.rest.now result }
+{
+    listed!(parser, first, aligned(parser, dummy)?, Mark::With)
 }
 
 fn sized_name(parser: &mut Parser<'_>) -> Result<SizedName, Stop>
@@ -73,58 +104,20 @@ fn sized_name(parser: &mut Parser<'_>) -> Result<SizedName, Stop>
     })
 }
 
-fn sized_names(parser: &mut Parser<'_>) -> Result<SizedNameList, Stop>
+/// Names with extents, and the line end behind them.
+pub(crate) fn sized_names(parser: &mut Parser<'_>) -> Result<SizedNameList, Stop>
     ensures shrinks { length parser.new.rest.now ≤ length parser.old.rest.now }
-    ensures reads { Reads (InItems SizedItem) (λ xs k. wanted Mark.Line (k xs)) parser.old.rest.now parser.new.rest.now result }
+    ensures reads { Reads (InItems SizedItem) (λ xs k. k xs) parser.old.rest.now parser.new.rest.now result }
 {
-    let mut items = Items::new(parser.alloc);
-    let first = sized_name(parser)?;
-    items.push(first)?;
-    while comma(parser) {
-        let item = sized_name(parser)?;
-        items.push(item)?;
-    }
-    Ok(items)
+    listed!(parser, sized_name(parser)?, Mark::Line)
 }
 
-fn listed_names(parser: &mut Parser<'_>) -> Result<ListedList, Stop>
+/// Names, and the line end behind them.
+pub(crate) fn listed_names(parser: &mut Parser<'_>) -> Result<ListedList, Stop>
     ensures shrinks { length parser.new.rest.now ≤ length parser.old.rest.now }
-    ensures reads { Reads (InItems ListedItem) (λ xs k. wanted Mark.Line (k xs)) parser.old.rest.now parser.new.rest.now result }
+    ensures reads { Reads (InItems ListedItem) (λ xs k. k xs) parser.old.rest.now parser.new.rest.now result }
 {
-    let mut items = Items::new(parser.alloc);
-    let first = parser.name()?;
-    items.push(first)?;
-    while comma(parser) {
-        let item = parser.name()?;
-        items.push(item)?;
-    }
-    Ok(items)
-}
-
-fn aligned(parser: &mut Parser<'_>, dummy: Name) -> Result<Listed, Stop>
-    ensures shrinks { length parser.new.rest.now ≤ length parser.old.rest.now }
-    ensures reads { Reads (InItem (AlignedItem dummy)) (λ x k. Then (k x)) parser.old.rest.now parser.new.rest.now result }
-{
-    let listed = parser.name()?;
-    parser.take(Fixed::Open)?;
-    parser.same_name(dummy)?;
-    parser.want(Mark::Close)?;
-    Ok(listed)
-}
-
-/// The arrays of an ALIGN from the second on, behind the first.
-fn more_aligned(parser: &mut Parser<'_>, dummy: Name, first: Listed) -> Result<ListedList, Stop>
-    ensures shrinks { length parser.new.rest.now ≤ length parser.old.rest.now }
-    ensures reads { Reads (λ k. Then (MoreItems (AlignedItem dummy) (first ∷ []) k)) (λ xs k. wanted Mark.With (k xs)) parser.old.rest.now
-        parser.new.rest.now result }
-{
-    let mut items = Items::new(parser.alloc);
-    items.push(first)?;
-    while comma(parser) {
-        let item = aligned(parser, dummy)?;
-        items.push(item)?;
-    }
-    Ok(items)
+    listed!(parser, parser.name()?, Mark::Line)
 }
 
 pub(crate) fn parameter_line(parser: &mut Parser<'_>) -> Result<Declaration, Stop>
@@ -133,7 +126,6 @@ pub(crate) fn parameter_line(parser: &mut Parser<'_>) -> Result<Declaration, Sto
 {
     parser.take(Fixed::Open)?;
     let list = parameters(parser)?;
-    parser.want(Mark::Close)?;
     parser.want(Mark::Line)?;
     Ok(Declaration::Parameter(list))
 }
@@ -145,17 +137,7 @@ pub(crate) fn integer_line(parser: &mut Parser<'_>) -> Result<Declaration, Stop>
     parser.take(Fixed::Star)?;
     parser.take(Fixed::Eight)?;
     let list = sized_names(parser)?;
-    parser.want(Mark::Line)?;
     Ok(Declaration::Integer(list))
-}
-
-pub(crate) fn decomposition_line(parser: &mut Parser<'_>) -> Result<Declaration, Stop>
-    ensures shrinks { length parser.new.rest.now ≤ length parser.old.rest.now }
-    ensures reads { Reads DecompositionRest (λ d k. k d) parser.old.rest.now parser.new.rest.now result }
-{
-    let list = sized_names(parser)?;
-    parser.want(Mark::Line)?;
-    Ok(Declaration::Decomposition(list))
 }
 
 pub(crate) fn align_line(parser: &mut Parser<'_>) -> Result<Declaration, Stop>
@@ -167,17 +149,12 @@ pub(crate) fn align_line(parser: &mut Parser<'_>) -> Result<Declaration, Stop>
     let dummy = parser.name()?;
     parser.want(Mark::Close)?;
     let arrays = more_aligned(parser, dummy.name, first)?;
-    parser.want(Mark::With)?;
-    let declaration = align_target(parser, dummy.name, arrays)?;
+    let declaration = align_with(parser, dummy.name, arrays)?;
     Ok(declaration)
 }
 
 /// What arrays are aligned with, behind WITH.
-fn align_target(
-    parser: &mut Parser<'_>,
-    dummy: Name,
-    arrays: ListedList,
-) -> Result<Declaration, Stop>
+fn align_with(parser: &mut Parser<'_>, dummy: Name, arrays: ListedList) -> Result<Declaration, Stop>
     ensures shrinks { length parser.new.rest.now ≤ length parser.old.rest.now }
     ensures reads { Reads (AlignTarget dummy arrays) (λ d k. k d) parser.old.rest.now parser.new.rest.now result }
 {
@@ -194,22 +171,4 @@ fn align_target(
         target_at: target.at,
         add,
     })
-}
-
-pub(crate) fn read_line(parser: &mut Parser<'_>) -> Result<Declaration, Stop>
-    ensures shrinks { length parser.new.rest.now ≤ length parser.old.rest.now }
-    ensures reads { Reads ReadRest (λ d k. k d) parser.old.rest.now parser.new.rest.now result }
-{
-    let list = listed_names(parser)?;
-    parser.want(Mark::Line)?;
-    Ok(Declaration::Read(list))
-}
-
-pub(crate) fn output_line(parser: &mut Parser<'_>) -> Result<Declaration, Stop>
-    ensures shrinks { length parser.new.rest.now ≤ length parser.old.rest.now }
-    ensures reads { Reads OutputRest (λ d k. k d) parser.old.rest.now parser.new.rest.now result }
-{
-    let list = listed_names(parser)?;
-    parser.want(Mark::Line)?;
-    Ok(Declaration::Output(list))
 }

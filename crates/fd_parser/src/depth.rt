@@ -52,39 +52,37 @@ impl Depth {
         requires { too_deep self sort.now ≡ false }
         ensures { result ≡ next_depth self sort.now }
     {
+        let inside = Depth {
+            spot: Spot::InLine,
+            ..self
+        };
+        let ended = Depth {
+            dos: self.dos.saturating_sub(1),
+            ..inside
+        };
         match sort {
             Sort::LineEnd => Depth {
-                spot: Spot::LineStart,
                 dos: self.dos,
-                opens: 0,
-                signs: 0,
+                ..Depth::none()
             },
             Sort::Open => Depth {
-                spot: Spot::InLine,
                 opens: self.opens + 1,
-                ..self
+                ..inside
             },
             Sort::Close => Depth {
-                spot: Spot::InLine,
                 opens: self.opens.saturating_sub(1),
-                ..self
+                ..inside
             },
             Sort::Plus | Sort::Minus | Sort::Star => Depth {
-                spot: Spot::InLine,
                 signs: self.signs + 1,
-                ..self
+                ..inside
             },
             Sort::DoWord => match self.spot {
                 Spot::LineStart => Depth {
-                    spot: Spot::InLine,
                     dos: self.dos + 1,
-                    ..self
+                    ..inside
                 },
-                Spot::BehindEnd => Depth {
-                    spot: Spot::InLine,
-                    dos: self.dos.saturating_sub(1),
-                    ..self
-                },
+                Spot::BehindEnd => ended,
                 Spot::InLine => self,
             },
             Sort::EndWord => match self.spot {
@@ -92,20 +90,10 @@ impl Depth {
                     spot: Spot::BehindEnd,
                     ..self
                 },
-                _ => Depth {
-                    spot: Spot::InLine,
-                    ..self
-                },
+                _ => inside,
             },
-            Sort::EndDoWord => Depth {
-                spot: Spot::InLine,
-                dos: self.dos.saturating_sub(1),
-                ..self
-            },
-            _ => Depth {
-                spot: Spot::InLine,
-                ..self
-            },
+            Sort::EndDoWord => ended,
+            _ => inside,
         }
     }
 }

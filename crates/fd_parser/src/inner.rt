@@ -3,7 +3,7 @@ ghost use Rattle.fd_expressions.specs.Reads.{Reads};
 ghost use Rattle.fd_parser.specs.Reads.{ReadsInner};
 ghost use Rattle.fd_grammar.specs.Machine.{Operator, AssignRest, ReduceRest, ReduceTarget, FirstInner, MoreInner};
 
-use fd_expressions::{Parser, Stop};
+use fd_expressions::{Parser, Stop, while_some};
 use fd_grammar::{Fixed, InnerOpening, Mark, Sort, inner_opening_of, sort_of};
 use fd_syntax::{BodyList, BodyStatement};
 use fd_words::{Combine, Name, SourcePlace};
@@ -16,21 +16,14 @@ fn operator(parser: &mut Parser<'_>) -> Result<Combine, Stop>
     let [token, rest @ ..] = parser.rest else {
         return Err(Stop::Wrong);
     };
-    match sort_of(token.kind) {
-        Sort::AddWord => {
-            parser.rest = rest;
-            Ok(Combine::Add)
-        }
-        Sort::MinWord => {
-            parser.rest = rest;
-            Ok(Combine::Min)
-        }
-        Sort::MaxWord => {
-            parser.rest = rest;
-            Ok(Combine::Max)
-        }
-        _ => Err(Stop::Wrong),
-    }
+    let operator = match sort_of(token.kind) {
+        Sort::AddWord => Combine::Add,
+        Sort::MinWord => Combine::Min,
+        Sort::MaxWord => Combine::Max,
+        _ => return Err(Stop::Wrong),
+    };
+    parser.rest = rest;
+    Ok(operator)
 }
 
 fn assign(
@@ -88,23 +81,11 @@ fn first_inner(parser: &mut Parser<'_>, index: Name) -> Result<BodyStatement, St
     ensures shrinks { length parser.new.rest.now ≤ length parser.old.rest.now }
     ensures reads { Reads (FirstInner index) (λ s k. MoreInner index (s ∷ []) k) parser.old.rest.now parser.new.rest.now result }
 {
-    while let [token, rest @ ..] = parser.rest {
-        let Some(opening) = inner_opening_of(sort_of(token.kind)) else {
-            break;
-        };
-        parser.rest = rest;
-        match opening {
-            InnerOpening::Blank => {}
-            InnerOpening::Assigns(name) => {
-                let statement = assign(parser, index, name, token.at)?;
-                return Ok(statement);
-            }
-            InnerOpening::Reduces => {
-                let statement = reduce(parser, index)?;
-                return Ok(statement);
-            }
-        }
-    }
+    while_some!(parser, token, inner_opening_of, opening => match opening {
+        InnerOpening::Blank => {}
+        InnerOpening::Assigns(name) => return assign(parser, index, name, token.at),
+        InnerOpening::Reduces => return reduce(parser, index),
+    });
     Err(Stop::Wrong)
 }
 
@@ -116,22 +97,10 @@ pub(crate) fn inner_lines(parser: &mut Parser<'_>, index: Name) -> Result<BodyLi
     let mut statements = Items::new(parser.alloc);
     let first = first_inner(parser, index)?;
     statements.push(first)?;
-    while let [token, rest @ ..] = parser.rest {
-        let Some(opening) = inner_opening_of(sort_of(token.kind)) else {
-            break;
-        };
-        parser.rest = rest;
-        match opening {
-            InnerOpening::Blank => {}
-            InnerOpening::Assigns(name) => {
-                let statement = assign(parser, index, name, token.at)?;
-                statements.push(statement)?;
-            }
-            InnerOpening::Reduces => {
-                let statement = reduce(parser, index)?;
-                statements.push(statement)?;
-            }
-        }
-    }
+    while_some!(parser, token, inner_opening_of, opening => match opening {
+        InnerOpening::Blank => {}
+        InnerOpening::Assigns(name) => statements.push(assign(parser, index, name, token.at)?)?,
+        InnerOpening::Reduces => statements.push(reduce(parser, index)?)?,
+    });
     Ok(statements)
 }

@@ -1,15 +1,14 @@
 ghost use Rattle.std.specs.Prelude.{◌≡◌, ◌≤◌, [], length};
 ghost use Rattle.fd_expressions.specs.Reads.{Reads};
 ghost use Rattle.fd_parser.specs.Reads.{ReadsEnd, ReadsAll};
-ghost use Rattle.fd_grammar.specs.Machine.{Begin, Head, Body, Close, EndOfProgram};
+ghost use Rattle.fd_grammar.specs.declared.opening.Closer.TheVariants.{EndOfProgram};
+ghost use Rattle.fd_grammar.specs.Machine.{Begin, Head, Body};
 
-use crate::declaration::{
-    align_line, decomposition_line, integer_line, output_line, parameter_line, read_line,
-};
-use crate::statement::{body, distribute};
-use fd_expressions::{Parser, Stop};
-use fd_grammar::{Heading, Mark, Sort, heading_of, sort_of};
-use fd_syntax::{DeclarationList, Program, StatementList};
+use crate::declaration::{align_line, integer_line, listed_names, parameter_line, sized_names};
+use crate::statement::{body, distribute, end_of};
+use fd_expressions::{Parser, Stop, while_some};
+use fd_grammar::{Closer, Heading, Mark, Sort, heading_of, sort_of};
+use fd_syntax::{Declaration, DeclarationList, Program, StatementList};
 use sqlite_items::Items;
 
 pub(crate) fn program(parser: &mut Parser<'_>) -> Result<Program, Stop>
@@ -20,7 +19,7 @@ pub(crate) fn program(parser: &mut Parser<'_>) -> Result<Program, Stop>
     parser.want(Mark::Line)?;
     let (declarations, first) = head(parser)?;
     let statements = body(parser, first)?;
-    end_of_program(parser)?;
+    end_of(parser, Closer::EndOfProgram)?;
     end_of_text(parser)?;
     Ok(Program {
         name: listed.name,
@@ -51,59 +50,17 @@ fn head(parser: &mut Parser<'_>) -> Result<(DeclarationList, StatementList), Sto
 {
     let mut declarations = Items::new(parser.alloc);
     let mut statements = Items::new(parser.alloc);
-    while let [token, rest @ ..] = parser.rest {
-        let Some(heading) = heading_of(sort_of(token.kind)) else {
-            break;
-        };
-        parser.rest = rest;
-        match heading {
-            Heading::Blank => {}
-            Heading::Parameters => {
-                let declaration = parameter_line(parser)?;
-                declarations.push(declaration)?;
-            }
-            Heading::Integers => {
-                let declaration = integer_line(parser)?;
-                declarations.push(declaration)?;
-            }
-            Heading::Decompositions => {
-                let declaration = decomposition_line(parser)?;
-                declarations.push(declaration)?;
-            }
-            Heading::Aligns => {
-                let declaration = align_line(parser)?;
-                declarations.push(declaration)?;
-            }
-            Heading::Reads => {
-                let declaration = read_line(parser)?;
-                declarations.push(declaration)?;
-            }
-            Heading::Outputs => {
-                let declaration = output_line(parser)?;
-                declarations.push(declaration)?;
-            }
-            Heading::Distributes => {
-                let statement = distribute(parser, token.at)?;
-                statements.push(statement)?;
-            }
-        }
-    }
+    while_some!(parser, token, heading_of, heading => match heading {
+        Heading::Blank => {}
+        Heading::Parameters => declarations.push(parameter_line(parser)?)?,
+        Heading::Integers => declarations.push(integer_line(parser)?)?,
+        Heading::Decompositions => declarations.push(Declaration::Decomposition(sized_names(parser)?))?,
+        Heading::Aligns => declarations.push(align_line(parser)?)?,
+        Heading::Reads => declarations.push(Declaration::Read(listed_names(parser)?))?,
+        Heading::Outputs => declarations.push(Declaration::Output(listed_names(parser)?))?,
+        Heading::Distributes => statements.push(distribute(parser, token.at)?)?,
+    });
     Ok((declarations, statements))
-}
-
-fn end_of_program(parser: &mut Parser<'_>) -> Result<(), Stop>
-    ensures { Reads (Close EndOfProgram) (λ _ s. s) parser.old.rest.now parser.new.rest.now result }
-{
-    let [token, rest @ ..] = parser.rest else {
-        return Err(Stop::Wrong);
-    };
-    match sort_of(token.kind) {
-        Sort::EndWord => {
-            parser.rest = rest;
-            Ok(())
-        }
-        _ => Err(Stop::Wrong),
-    }
 }
 
 fn end_of_text(parser: &mut Parser<'_>) -> Result<(), Stop>

@@ -2,22 +2,13 @@ ghost use Rattle.std.specs.Prelude.{◌≡◌, ◌≤◌, length, IfOk, IfErr};
 ghost use Rattle.fd_expressions.specs.Reads.{Reads};
 ghost use Rattle.fd_parser.specs.Reads.{ReadsBody};
 ghost use Rattle.fd_grammar.specs.Machine.{Then, InForm, AfterCyclic, DistributeRest, PrintRest, RangeRest, DoRest, ForallRest, Close};
-ghost use Rattle.fd_grammar.specs.Machine.{EndOfDo, EndOfForall};
 
 use crate::inner::inner_lines;
-use fd_expressions::{Parser, Stop};
-use fd_grammar::{Fixed, Mark, Opening, Sort, opening_of, sort_of};
+use fd_expressions::{Parser, Stop, while_some};
+use fd_grammar::{Closer, Fixed, Mark, Opening, Sort, closing_of, opening_of, sort_of};
 use fd_syntax::{Form, Listed, Loop, Scalar, Statement, StatementList};
 use fd_words::SourcePlace;
 use sqlite_items::Items;
-
-/// What a DO or a FORALL runs over.
-#[derive(Drop)]
-struct Range {
-    variable: Listed,
-    low: Scalar,
-    high: Scalar,
-}
 
 fn form(parser: &mut Parser<'_>) -> Result<Form, Stop>
     ensures shrinks { length parser.new.rest.now ≤ length parser.old.rest.now }
@@ -88,9 +79,9 @@ fn print(parser: &mut Parser<'_>, at: SourcePlace) -> Result<Statement, Stop>
 }
 
 /// A variable with its bounds, and the line end behind them.
-fn bounds(parser: &mut Parser<'_>) -> Result<Range, Stop>
+fn bounds(parser: &mut Parser<'_>) -> Result<(Listed, Scalar, Scalar), Stop>
     ensures shrinks { length parser.new.rest.now ≤ length parser.old.rest.now }
-    ensures reads { Reads RangeRest (λ r k. k r.variable r.low r.high) parser.old.rest.now parser.new.rest.now result }
+    ensures reads { Reads RangeRest (λ r k. k r.0 r.1 r.2) parser.old.rest.now parser.new.rest.now result }
 {
     let variable = parser.name()?;
     parser.want(Mark::Equals)?;
@@ -98,24 +89,16 @@ fn bounds(parser: &mut Parser<'_>) -> Result<Range, Stop>
     parser.want(Mark::Comma)?;
     let high = parser.scalar()?;
     parser.want(Mark::Line)?;
-    Ok(Range {
-        variable,
-        low,
-        high,
-    })
+    Ok((variable, low, high))
 }
 
 fn forall(parser: &mut Parser<'_>, at: SourcePlace) -> Result<Statement, Stop>
     ensures shrinks { length parser.new.rest.now ≤ length parser.old.rest.now }
     ensures reads { Reads (ForallRest at) (λ s k. k s) parser.old.rest.now parser.new.rest.now result }
 {
-    let Range {
-        variable,
-        low,
-        high,
-    } = bounds(parser)?;
+    let (variable, low, high) = bounds(parser)?;
     let body = inner_lines(parser, variable.name)?;
-    end_of_forall(parser)?;
+    end_of(parser, Closer::EndOfForall)?;
     parser.want(Mark::Line)?;
     Ok(Statement::Forall(Loop {
         at,
@@ -127,43 +110,21 @@ fn forall(parser: &mut Parser<'_>, at: SourcePlace) -> Result<Statement, Stop>
     }))
 }
 
-fn end_of_forall(parser: &mut Parser<'_>) -> Result<(), Stop>
+/// What ends the statements of a program, a DO or a FORALL.
+pub(crate) fn end_of(parser: &mut Parser<'_>, closer: Closer) -> Result<(), Stop>
     ensures shrinks { length parser.new.rest.now ≤ length parser.old.rest.now }
-    ensures reads { Reads (Close EndOfForall) (λ _ s. s) parser.old.rest.now parser.new.rest.now result }
+    ensures reads { Reads (Close closer) (λ _ s. s) parser.old.rest.now parser.new.rest.now result }
 {
     let [token, rest @ ..] = parser.rest else {
         return Err(Stop::Wrong);
     };
-    match sort_of(token.kind) {
-        Sort::EndForallWord => {
-            parser.rest = rest;
-            Ok(())
-        }
-        Sort::EndWord => {
-            parser.rest = rest;
-            parser.take(Fixed::Forall)
-        }
-        _ => Err(Stop::Wrong),
-    }
-}
-
-fn end_of_do(parser: &mut Parser<'_>) -> Result<(), Stop>
-    ensures shrinks { length parser.new.rest.now ≤ length parser.old.rest.now }
-    ensures reads { Reads (Close EndOfDo) (λ _ s. s) parser.old.rest.now parser.new.rest.now result }
-{
-    let [token, rest @ ..] = parser.rest else {
+    let Some(more) = closing_of(closer, sort_of(token.kind)) else {
         return Err(Stop::Wrong);
     };
-    match sort_of(token.kind) {
-        Sort::EndDoWord => {
-            parser.rest = rest;
-            Ok(())
-        }
-        Sort::EndWord => {
-            parser.rest = rest;
-            parser.take(Fixed::Do)
-        }
-        _ => Err(Stop::Wrong),
+    parser.rest = rest;
+    match more {
+        None => Ok(()),
+        Some(fixed) => parser.take(fixed),
     }
 }
 
@@ -173,14 +134,10 @@ fn repeated(parser: &mut Parser<'_>, at: SourcePlace) -> Result<StatementList, S
     ensures shrinks { length parser.new.rest.now ≤ length parser.old.rest.now }
     ensures reads { Reads (DoRest at) (λ ss k. k ss) parser.old.rest.now parser.new.rest.now result }
 {
-    let Range {
-        variable,
-        low,
-        high,
-    } = bounds(parser)?;
+    let (variable, low, high) = bounds(parser)?;
     let none = Items::new(parser.alloc);
     let inner = body(parser, none)?;
-    end_of_do(parser)?;
+    end_of(parser, Closer::EndOfDo)?;
     parser.want(Mark::Line)?;
     let inside = counted(&inner)?;
     let mut all = Items::new(parser.alloc);
@@ -203,31 +160,13 @@ pub(crate) fn body(parser: &mut Parser<'_>, before: StatementList) -> Result<Sta
     ensures reads { ReadsBody before parser.old.rest.now parser.new.rest.now result }
 {
     let mut statements = before;
-    while let [token, rest @ ..] = parser.rest {
-        let Some(opening) = opening_of(sort_of(token.kind)) else {
-            break;
-        };
-        parser.rest = rest;
-        match opening {
-            Opening::Blank => {}
-            Opening::Distributes => {
-                let statement = distribute(parser, token.at)?;
-                statements.push(statement)?;
-            }
-            Opening::Prints => {
-                let statement = print(parser, token.at)?;
-                statements.push(statement)?;
-            }
-            Opening::Repeats => {
-                let more = repeated(parser, token.at)?;
-                statements.append(more)?;
-            }
-            Opening::Ranges => {
-                let statement = forall(parser, token.at)?;
-                statements.push(statement)?;
-            }
-        }
-    }
+    while_some!(parser, token, opening_of, opening => match opening {
+        Opening::Blank => {}
+        Opening::Distributes => statements.push(distribute(parser, token.at)?)?,
+        Opening::Prints => statements.push(print(parser, token.at)?)?,
+        Opening::Repeats => statements.append(repeated(parser, token.at)?)?,
+        Opening::Ranges => statements.push(forall(parser, token.at)?)?,
+    });
     Ok(statements)
 }
 

@@ -20,7 +20,7 @@ use Rattle.chaos_dist.specs.declared.step_form.StepForm.{StepForm}
 use Rattle.chaos_dist.specs.declared.step_form.StepForm.TheVariants.{Regular, Map}
 use Rattle.fd_program.specs.CombinedLaws.{AreOnce, one_if}
 use Rattle.fd_program.specs.Homes.{provisional_home, inspected_by, home_of, home_by, looked_at, owner_met, uses_at}
-use Rattle.fd_program.specs.Layouts.{Scene, loop_at, owners_at, owners_by, mapped_owners, store_at}
+use Rattle.fd_program.specs.Layouts.{Scene, loop_at, owners_at, owners_by, owners_by_map, store_at}
 use Rattle.fd_program.specs.ListLaws.{or_none}
 use Rattle.fd_program.specs.Loops.{counted_from, count_between, iterations_of}
 use Rattle.fd_program.specs.Past.{form_set}
@@ -160,7 +160,7 @@ remainder_below : (v : ℤ) (nodes : ℕ) → 1 ≤ nodes → remainder_of v nod
 remainder_below (pos a) nodes h = mod_below a nodes h
 remainder_below (negsuc a) nodes h = let r = mod_below a nodes h in omega (arith, r, h)
 
-mapped_below : (nodes : ℕ) (values : List ℤ) → 1 ≤ nodes → AllByRecursion (λ o. o < nodes) (mapped_owners nodes values)
+mapped_below : (nodes : ℕ) (values : List ℤ) → 1 ≤ nodes → AllByRecursion (λ o. o < nodes) (owners_by_map nodes values)
 mapped_below nodes [] h = tt
 mapped_below nodes (v ∷ vs) h = (remainder_below v nodes h, mapped_below nodes vs h)
 

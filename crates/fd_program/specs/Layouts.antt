@@ -8,6 +8,7 @@ use Rattle.chaos_dist.specs.declared.step_form.StepForm.{StepForm}
 use Rattle.chaos_dist.specs.declared.step_form.StepForm.TheVariants.{Regular, Map}
 use Rattle.fd_program.specs.Past.{form_set, form_at}
 use Rattle.fd_program.specs.Runs.{Run, stores_of}
+use Rattle.fd_program.specs.SameLoops.{facts_of}
 use Rattle.fd_program.specs.Trace.{site_at}
 use Rattle.fd_program.specs.declared.array.LayoutName.{LayoutName}
 use Rattle.fd_program.specs.declared.checked.Checked.{Checked}
@@ -34,13 +35,13 @@ store_at s past = list_at s.stores (length past)
 -- ---- owners
 
 -- the owners of the elements 1, 2 and so on by a map array's values
-abbrev pub mapped_owners : ℕ → List ℤ → List ℕ
-mapped_owners nodes values = map (λ v. remainder_of v nodes) values
+abbrev pub owners_by_map : ℕ → List ℤ → List ℕ
+owners_by_map nodes values = map (λ v. remainder_of v nodes) values
 
 -- the owners by a form; `before` has the steps before the one that gave it, and a map's values are those of then
 abbrev pub owners_by : Scene → ℕ → StepForm × List Step → List ℕ
 owners_by s extent (Regular shape, before) = regular_owners shape extent s.nodes
-owners_by s extent (Map array, before) = mapped_owners s.nodes (list_at (store_at s before) array)
+owners_by s extent (Map array, before) = owners_by_map s.nodes (list_at (store_at s before) array)
 
 -- for each decomposition the owners of its elements as the step after `past` begins
 abbrev pub owners_at : Scene → List Step → List (List ℕ)
@@ -56,14 +57,7 @@ layouts_at c past = map (layout_at past) (enumerate_from 0 c.layouts)
 
 -- the facts of a FORALL's execution after these steps
 abbrev pub facts_at : Checked → ℕ → HomeRule → List Step → ℕ → LoopTurn → LoopFacts
-facts_at c nodes rule past site turn = record {
-  arrays = c.arrays;
-  site = site_at c.sites site;
-  turn = turn;
-  layouts = layouts_at c past;
-  nodes = nodes;
-  rule = rule;
-}
+facts_at c nodes rule past site turn = facts_of c.arrays (site_at c.sites site) nodes rule turn (layouts_at c past)
 
 abbrev pub loop_at : Scene → List Step → ℕ → LoopTurn → LoopFacts
 loop_at s past site turn = facts_at s.checked s.nodes s.rule past site turn

@@ -2,6 +2,7 @@ pub mod Stores
 pub mod Scalars
 pub mod Uses
 pub mod Values
+pub mod ValueLaws
 pub mod Loops
 pub mod Trace
 pub mod Runs

@@ -15,7 +15,7 @@ use Rattle.chaos_dist.specs.declared.shape.Shape.TheVariants.{Block, Cyclic, Blo
 use Rattle.chaos_dist.specs.declared.step_form.StepForm.{StepForm}
 use Rattle.chaos_dist.specs.declared.step_form.StepForm.TheVariants.{Regular, Map}
 use Rattle.fd_program.specs.Checks.{IsChecked, IsSite, IsReference, IsAligned}
-use Rattle.fd_program.specs.Layouts.{Scene, store_at, owners_at, owners_by, layouts_at, loop_at, mapped_owners}
+use Rattle.fd_program.specs.Layouts.{Scene, store_at, owners_at, owners_by, layouts_at, loop_at, owners_by_map}
 use Rattle.fd_program.specs.ListLaws.{all_at}
 use Rattle.fd_program.specs.LoopCases.{both_parts}
 use Rattle.fd_program.specs.Past.{form_set, is_same_shape, is_set_again, is_repeat, change_at, version_at, record_at, is_same_record}
@@ -73,11 +73,11 @@ get_some [] k h = absurd (omega arith)
 get_some (x ∷ xs) zero h = (x, refl)
 get_some (x ∷ xs) (suc k) h = get_some xs k (omega arith)
 
-each_place : {A : Type 0} (P : A → Type 0) (xs : List A) → ((k : ℕ) (x : A) → slice_get xs k ≡ Some x → P x) → AllByRecursion P xs
+pub each_place : {A : Type 0} (P : A → Type 0) (xs : List A) → ((k : ℕ) (x : A) → slice_get xs k ≡ Some x → P x) → AllByRecursion P xs
 each_place P [] h = tt
 each_place P (x ∷ xs) h = (h 0 x refl, each_place P xs (λ k y e. h (suc k) y e))
 
-any_true : {A : Type 0} (q : A → Bool) (xs : List A) (k : ℕ) (x : A) → slice_get xs k ≡ Some x → q x ≡ true → list_any q xs ≡ true
+pub any_true : {A : Type 0} (q : A → Bool) (xs : List A) (k : ℕ) (x : A) → slice_get xs k ≡ Some x → q x ≡ true → list_any q xs ≡ true
 any_true q [] k x e h = cc
 any_true q (y ∷ ys) zero x e h = let same : y ≡ x = cc in ap (λ b. b || list_any q ys) (ap q same ∙ h)
 any_true q (y ∷ ys) (suc k) x e h = later (q y) (list_any q ys) (any_true q ys k x e h)
@@ -136,7 +136,7 @@ set_again s extent past (Map old) before (Map new) known history h e =
     let same : change_at s.checked before new ≡ change_at s.checked past new =
     sym (eqb-true (change_at s.checked past new) (change_at s.checked before new) both.1) in
     ap (λ array. owners_by s extent (Map array, before)) (eqb-true old new both.0)
-    ∙ ap (mapped_owners s.nodes) (same_change s before past new known h history same)
+    ∙ ap (owners_by_map s.nodes) (same_change s before past new known h history same)
 
 -- the steps before the one that gave the form
 form_before : (past : List Step) (d : ℕ) → IsBefore (form_set past d).1 past

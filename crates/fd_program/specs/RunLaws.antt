@@ -45,7 +45,7 @@ get_first zero (y ∷ ys) x rest e = ap (λ l. slice_get l 0) e
 get_first (suc n) [] x rest e = cc
 get_first (suc n) (y ∷ ys) x rest e = get_first n ys x rest e
 
-drop_first : {A : Type 0} (n : ℕ) (xs : List A) (x : A) (rest : List A) → drop n xs ≡ x ∷ rest → drop (suc n) xs ≡ rest
+pub drop_first : {A : Type 0} (n : ℕ) (xs : List A) (x : A) (rest : List A) → drop n xs ≡ x ∷ rest → drop (suc n) xs ≡ rest
 drop_first zero [] x rest e = cc
 drop_first zero (y ∷ ys) x rest e = ap (drop 1) e
 drop_first (suc n) [] x rest e = cc
@@ -222,9 +222,9 @@ RunHasHistory = (c : Checked) (nodes : ℕ) (rule : HomeRule) (store : List (Lis
 abbrev completed_on : Run → List Step → List Step
 completed_on run past = drop (if is_some run.refused then 1 else 0) (executed_of run ++ past)
 
-one_more : (step : Step) (store : List (List ℤ)) (run : Run) (past : List Step) → completed_on (run_past step store None run) past
+one_completed : (step : Step) (store : List (List ℤ)) (run : Run) (past : List Step) → completed_on (run_past step store None run) past
     ≡ completed_on run (step ∷ past)
-one_more step store run past =
+one_completed step store run past =
     ap (drop (if is_some run.refused then 1 else 0))
     (ap (λ l. l ++ past) (reverse_onto (map (λ s. s.0) run.executed) step []) ∙ append_assoc (executed_of run) (step ∷ []) past)
 
@@ -243,7 +243,7 @@ history_on s past (step ∷ rest) here history =
     by None e onwards =
         let next = reached_next s past step rest here e in
         let run = run_from s.checked rest (after_step s.checked step (store_at s past)) in
-        subst (λ steps. IsHistory s steps) (sym (one_more step (store_at s past) run past))
+        subst (λ steps. IsHistory s steps) (sym (one_completed step (store_at s past) run past))
         (subst (λ store. IsHistory s (completed_on (run_from s.checked rest store) (step ∷ past))) next.0
         (onwards next.1 (next.0, history)))
 

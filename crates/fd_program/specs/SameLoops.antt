@@ -63,14 +63,7 @@ pub record AreSameExecutions (f g : LoopFacts) (owners others : List (List ℕ))
 
 -- the facts of an execution of a FORALL
 abbrev pub facts_of : List ArrayFacts → Site → ℕ → HomeRule → LoopTurn → List Layout → LoopFacts
-facts_of arrays site nodes rule turn layouts = record {
-  arrays = arrays;
-  site = site;
-  turn = turn;
-  layouts = layouts;
-  nodes = nodes;
-  rule = rule;
-}
+facts_of arrays site n rule turn ls = record { arrays = arrays; site = site; turn = turn; layouts = ls; nodes = n; rule = rule }
 
 abbrev pub SameLoopsDoTheSame : Type 0
 SameLoopsDoTheSame =
@@ -88,7 +81,7 @@ map_same : {A B : Type 0} (P : A → Type 0) (f g : A → B) → ((x : A) → P 
 map_same P f g same [] h = refl
 map_same P f g same (x ∷ xs) h = ap (λ y. y ∷ map f xs) (same x h.0) ∙ ap (λ ys. g x ∷ ys) (map_same P f g same xs h.1)
 
-filter_same : {A : Type 0} (P : A → Type 0) (p q : A → Bool) → ((x : A) → P x → p x ≡ q x) → (xs : List A) → AllByRecursion P xs
+pub filter_same : {A : Type 0} (P : A → Type 0) (p q : A → Bool) → ((x : A) → P x → p x ≡ q x) → (xs : List A) → AllByRecursion P xs
     → filter p xs ≡ filter q xs
 filter_same P p q same [] h = refl
 filter_same P p q same (x ∷ xs) h =

@@ -41,7 +41,7 @@ pub fn extent(arrays: &[ArrayFacts], array: u32) -> u64
 }
 
 /// Whether the array has this element.
-pub fn is_within(arrays: &[ArrayFacts], array: u32, subscript: i128) -> bool
+pub(crate) fn is_within(arrays: &[ArrayFacts], array: u32, subscript: i128) -> bool
     ensures { result ≡ is_within_of arrays.now array subscript }
 {
     1 <= subscript && subscript <= i128::from(extent(arrays, array))

@@ -3,7 +3,8 @@ ghost use Rattle.std.specs.Prelude.{◌≡◌, filter_map};
 ghost use Rattle.fd_program.specs.Loops.{first_of, offence_at as offence_by};
 ghost use Rattle.fd_program.specs.Uses.{gives_index, is_met as is_met_of, subscript_of, use_of};
 
-use crate::{ArrayFacts, CheckedSubscript, Reference, Use, is_within};
+use crate::arrays::is_within;
+use crate::{ArrayFacts, CheckedSubscript, Reference, Use};
 use fd_words::{Offence, Role, exact_sum};
 
 /// The subscript at iteration `i`: `add` is the number that it adds, and `before` the element that the

@@ -1,18 +1,10 @@
 //! Laws of the definitions. Each function does nothing; its contract is the law.
-ghost use Rattle.fd_program.specs.CellsLaws.{CellsAreInOrder};
-ghost use Rattle.fd_program.specs.CombinedLaws.{CombiningSplits};
-ghost use Rattle.fd_program.specs.ContributionLaws.{ContributionsMakeElements};
-ghost use Rattle.fd_program.specs.HomeLaws.{HomesAreOnce, InspectedInOrder};
-ghost use Rattle.fd_program.specs.LoopCases.{LoopHasThreeCases};
-ghost use Rattle.fd_program.specs.LoopLaws.{WritesChangeElements};
-ghost use Rattle.fd_program.specs.OffenceLaws.{OffenceIsLeast};
-ghost use Rattle.fd_program.specs.RecordLaws.{RecordDetermines};
-ghost use Rattle.fd_program.specs.RunLaws.{RunHasHistory};
-ghost use Rattle.fd_program.specs.SameLoops.{SameLoopsDoTheSame};
-ghost use Rattle.fd_program.specs.StoreLaws.{InitialStoreFits, RunKeepsLengths};
-ghost use Rattle.fd_program.specs.SubscriptLaws.{SubscriptsAreExact};
-ghost use Rattle.fd_program.specs.UsesLaws.{UsesAreTold};
-ghost use Rattle.fd_program.specs.VoteLaws.{ExecutedInOrder, VotesTell};
+ghost use Rattle.fd_program.specs.{CellsLaws.CellsAreInOrder, CombinedLaws.CombiningSplits};
+ghost use Rattle.fd_program.specs.{ContributionLaws.ContributionsMakeElements, HomeLaws.HomesAreOnce, HomeLaws.InspectedInOrder};
+ghost use Rattle.fd_program.specs.{LoopCases.LoopHasThreeCases, LoopLaws.WritesChangeElements, OffenceLaws.OffenceIsLeast};
+ghost use Rattle.fd_program.specs.{RecordLaws.RecordDetermines, RunLaws.RunHasHistory, SameLoops.SameLoopsDoTheSame};
+ghost use Rattle.fd_program.specs.{StoreLaws.InitialStoreFits, StoreLaws.RunKeepsLengths, SubscriptLaws.SubscriptsAreExact};
+ghost use Rattle.fd_program.specs.{UsesLaws.UsesAreTold, VoteLaws.ExecutedInOrder, VoteLaws.VotesTell};
 
 /// Each subscript is the exact number that its form says; through an index array it has one where the index
 /// array has the element that it reads.

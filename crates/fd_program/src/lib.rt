@@ -19,7 +19,7 @@ mod site;
 mod trace;
 
 pub use array::{ArrayFacts, ArrayList, LayoutName, LayoutNames, OutputName, OutputNames};
-pub use arrays::{array_at, decomposition, extent, is_within};
+pub use arrays::{array_at, decomposition, extent};
 pub use body::{CheckedBody, CheckedBodyList, CheckedExpr, first_target};
 pub use checked::{Checked, CheckedStatement, CheckedStatements, Store};
 pub use count::{SiteCount, SiteCounts};

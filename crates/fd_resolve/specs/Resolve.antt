@@ -35,11 +35,11 @@ depth_of a name = position (name_eq name) a.variables
 abbrev pub constant_of : Head → Around → List ℕ → Option (Option ℤ)
 constant_of h a name = as_constant (known h.scope.names a.here name)
 
-abbrev pub array_of : Head → Around → List ℕ → Option ℕ
-array_of h a name = as_array (known h.scope.names a.here name)
+abbrev pub array_called : Head → Around → List ℕ → Option ℕ
+array_called h a name = as_array (known h.scope.names a.here name)
 
 abbrev pub array_or_first : Head → Around → List ℕ → ℕ
-array_or_first h a name = unwrap_or (array_of h a name) 0
+array_or_first h a name = unwrap_or (array_called h a name) 0
 
 -- a constant or an enclosing variable is known as a scalar
 abbrev pub is_scalar : Head → Around → List ℕ → Bool
@@ -51,7 +51,7 @@ scalar_unknown h a name at = fault_if (not (is_scalar h a name)) at (no_scalar h
 
 -- Unknown: the name isn't known as an array
 abbrev pub array_unknown : Head → Around → List ℕ → SourcePlace → List SourceFault
-array_unknown h a name at = fault_if (not (is_some (array_of h a name))) at (cause.Unknown name)
+array_unknown h a name at = fault_if (not (is_some (array_called h a name))) at (cause.Unknown name)
 
 -- ---- scalars
 
@@ -131,7 +131,7 @@ array_mark None name = mark.Unknown name
 abbrev pub subscript_marks : Head → Around → Subscript → List Mark
 subscript_marks h a (subscript.Plain add) = mark.Plain ∷ offset_marks h a add
 subscript_marks h a (subscript.Through index_array at inner_add add) =
-    array_mark (array_of h a index_array) index_array ∷ (offset_marks h a inner_add ++ mark.Plain ∷ offset_marks h a add)
+    array_mark (array_called h a index_array) index_array ∷ (offset_marks h a inner_add ++ mark.Plain ∷ offset_marks h a add)
 subscript_marks h a (subscript.Scalar s) = mark.Scalar ∷ scalar_marks h a s
 
 -- ---- the same, at the variants as code writes them

@@ -2,6 +2,7 @@
 #![tactic(auto)]
 
 mod around;
+mod made;
 mod marking;
 mod marks;
 mod names;
@@ -9,6 +10,7 @@ mod scalars;
 mod subscripts;
 
 pub use around::Around;
+pub use made::Made;
 pub use marking::marks_of;
 pub use marks::{Mark, Marks};
 pub use names::{array_named, array_or_zero, note_array, note_name, resolve_name, same_name};

@@ -4,20 +4,18 @@ ghost use Rattle.fd_resolve.specs.Resolve.{depth_of, constant_of, name_mark, arr
 ghost use Rattle.fd_resolve.specs.Resolve.{subscript_marks};
 
 use crate::names::{array_named, constant_named, depth};
-use crate::{Around, Mark, Marks};
+use crate::{Around, Made, Mark, Marks};
 use fd_scope::{Head, value_known};
 use fd_syntax::{Scalar, Subscript, Term};
-use fd_words::{Memory, Name};
+use fd_words::Name;
 use sqlite_items::Items;
 use std::alloc::Global;
 
-fn push(marks: &mut Marks, mark: Mark) -> Result<(), Memory>
+fn push(marks: &mut Marks, mark: Mark) -> Made<()>
     ensures { OnOk result (marks.new ≡ marks.old ++ mark ∷ []) }
 {
-    match marks.push(mark) {
-        Ok(()) => Ok(()),
-        Err(_) => Err(Memory),
-    }
+    marks.push(mark)?;
+    Ok(())
 }
 
 fn mark_of(depth: Option<u32>, value: Option<i64>, name: Name) -> Mark
@@ -41,7 +39,7 @@ fn mark_of_array(number: Option<u32>, name: Name) -> Mark
     }
 }
 
-fn mark_name(marks: &mut Marks, head: &Head, around: &Around, name: Name) -> Result<(), Memory>
+fn mark_name(marks: &mut Marks, head: &Head, around: &Around, name: Name) -> Made<()>
     ensures { OnOk result (marks.new ≡ marks.old ++ name_mark (depth_of around.now name)
         (constant_value (constant_of head.now around.now name)) name ∷ []) }
 {
@@ -51,26 +49,21 @@ fn mark_name(marks: &mut Marks, head: &Head, around: &Around, name: Name) -> Res
 }
 
 /// Appends the marks of a scalar.
-fn mark_scalar(
-    marks: &mut Marks,
-    head: &Head,
-    around: &Around,
-    scalar: &Scalar,
-) -> Result<(), Memory>
+fn mark_scalar(marks: &mut Marks, head: &Head, around: &Around, scalar: &Scalar) -> Made<()>
     ensures { OnOk result (marks.new ≡ marks.old ++ scalar_marks head.now around.now scalar.now) }
 {
     match scalar {
-        Scalar::Number { value, at: _ } => push(marks, Mark::Number(*value)),
-        Scalar::Named { name, at: _ } => mark_name(marks, head, around, *name),
-        Scalar::Negate { at: _, inner } => {
+        Scalar::Number { value, .. } => push(marks, Mark::Number(*value)),
+        Scalar::Named { name, .. } => mark_name(marks, head, around, *name),
+        Scalar::Negate { inner, .. } => {
             push(marks, Mark::Negate)?;
             mark_scalar(marks, head, around, inner.get())
         }
         Scalar::Binary {
             op,
-            at: _,
             left,
             right,
+            ..
         } => {
             push(marks, Mark::Binary(*op))?;
             mark_scalar(marks, head, around, left.get())?;
@@ -79,14 +72,14 @@ fn mark_scalar(
     }
 }
 
-fn mark_term(marks: &mut Marks, head: &Head, around: &Around, term: &Term) -> Result<(), Memory>
+fn mark_term(marks: &mut Marks, head: &Head, around: &Around, term: &Term) -> Made<()>
     ensures { OnOk result (marks.new ≡ marks.old ++ term_marks head.now around.now term.now) }
 {
     push(marks, Mark::Term(term.minus))?;
     mark_scalar(marks, head, around, &term.scalar)
 }
 
-fn mark_offset(marks: &mut Marks, head: &Head, around: &Around, add: &[Term]) -> Result<(), Memory>
+fn mark_offset(marks: &mut Marks, head: &Head, around: &Around, add: &[Term]) -> Made<()>
     ensures { OnOk result (marks.new ≡ marks.old ++ offset_marks head.now around.now add.now) }
 {
     for term in add {
@@ -96,12 +89,7 @@ fn mark_offset(marks: &mut Marks, head: &Head, around: &Around, add: &[Term]) ->
 }
 
 /// A subscript without its places.
-pub fn marks_of(
-    alloc: Global,
-    head: &Head,
-    around: &Around,
-    subscript: &Subscript,
-) -> Result<Marks, Memory>
+pub fn marks_of(alloc: Global, head: &Head, around: &Around, subscript: &Subscript) -> Made<Marks>
     ensures { IfOk result (λ m. m ≡ subscript_marks head.now around.now subscript.now) }
 {
     let mut marks = Items::new(alloc);

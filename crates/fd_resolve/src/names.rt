@@ -1,12 +1,12 @@
 ghost use Rattle.std.specs.Prelude.{◌≡◌, ◌++◌, position, OnOk, IfOk};
 ghost use Rattle.fd_scope.specs.Names.{name_eq};
-ghost use Rattle.fd_resolve.specs.Resolve.{depth_of, constant_of, array_of, array_or_first, is_scalar, scalar_unknown, array_unknown};
+ghost use Rattle.fd_resolve.specs.Resolve.{depth_of, constant_of, array_called, array_or_first, is_scalar, scalar_unknown, array_unknown};
 ghost use Rattle.fd_resolve.specs.Resolve.{name_resolved, named};
 
-use crate::Around;
+use crate::{Around, Made};
 use fd_program::CheckedScalar;
 use fd_scope::{Faults, Head, array_number, constant, narrow, not_scalar, value_known};
-use fd_words::{Memory, Name, SourceCause, SourcePlace};
+use fd_words::{Name, SourceCause, SourcePlace};
 
 /// Two names are one.
 pub fn same_name(name: Name, other: Name) -> bool
@@ -22,7 +22,7 @@ fn place_among(variables: &[Name], name: Name) -> Option<usize>
 }
 
 /// How many DOs are around the one whose variable a name is.
-pub fn depth(around: &Around, name: Name) -> Result<Option<u32>, Memory>
+pub fn depth(around: &Around, name: Name) -> Made<Option<u32>>
     ensures { IfOk result (λ d. d ≡ depth_of around.now name) }
 {
     match place_among(around.variables.as_slice(), name) {
@@ -43,7 +43,7 @@ pub fn constant_named(head: &Head, around: &Around, name: Name) -> Option<Option
 
 /// The number of the array of a name.
 pub fn array_named(head: &Head, around: &Around, name: Name) -> Option<u32>
-    ensures { result ≡ array_of head.now around.now name }
+    ensures { result ≡ array_called head.now around.now name }
 {
     array_number(head.scope.names.known(around.here, name))
 }
@@ -69,7 +69,7 @@ pub fn note_name(
     faults: &mut Faults,
     name: Name,
     at: SourcePlace,
-) -> Result<(), Memory>
+) -> Made<()>
     ensures noted { OnOk result (faults.new ≡ faults.old ++ scalar_unknown head.now around.now name at) }
 {
     let is_known = is_known_scalar(head, around, name);
@@ -83,7 +83,7 @@ pub fn note_array(
     faults: &mut Faults,
     name: Name,
     at: SourcePlace,
-) -> Result<(), Memory>
+) -> Made<()>
     ensures noted { OnOk result (faults.new ≡ faults.old ++ array_unknown head.now around.now name at) }
 {
     let is_known = array_named(head, around, name).is_some();
@@ -108,7 +108,7 @@ pub fn resolve_name(
     around: &Around,
     name: Name,
     at: SourcePlace,
-) -> Result<CheckedScalar, Memory>
+) -> Made<CheckedScalar>
     ensures { IfOk result (λ s. s ≡ named head.now around.now name at) }
 {
     let depth = depth(around, name)?;

@@ -1,22 +1,16 @@
-ghost use Rattle.std.specs.Prelude.{◌≡◌, ◌++◌, ◌∷◌, [], OnOk, IfOk};
+ghost use Rattle.std.specs.Prelude.{◌≡◌, ◌++◌, OnOk, IfOk};
 ghost use Rattle.fd_resolve.specs.Resolve.{term_resolved, offset_resolved, offset_unknowns, subscript_resolved, subscript_unknowns};
 
-use crate::Around;
 use crate::names::{array_or_zero, note_array};
 use crate::scalars::{note_scalar, resolve};
+use crate::{Around, Made};
 use fd_program::{CheckedSubscript, CheckedTerm, CheckedTerms};
 use fd_scope::{Faults, Head};
 use fd_syntax::{Subscript, Term};
-use fd_words::Memory;
 use sqlite_items::Items;
 use std::alloc::Global;
 
-fn resolve_term(
-    alloc: Global,
-    head: &Head,
-    around: &Around,
-    term: &Term,
-) -> Result<CheckedTerm, Memory>
+fn resolve_term(alloc: Global, head: &Head, around: &Around, term: &Term) -> Made<CheckedTerm>
     ensures { IfOk result (λ t. t ≡ term_resolved head.now around.now term.now) }
 {
     let scalar = resolve(alloc, head, around, &term.scalar)?;
@@ -27,38 +21,23 @@ fn resolve_term(
     })
 }
 
-fn push_term(terms: &mut CheckedTerms, term: CheckedTerm) -> Result<(), Memory>
-    ensures { OnOk result (terms.new ≡ terms.old ++ term ∷ []) }
-{
-    match terms.push(term) {
-        Ok(()) => Ok(()),
-        Err(_) => Err(Memory),
-    }
-}
-
 /// An offset with its names resolved.
 pub fn resolve_offset(
     alloc: Global,
     head: &Head,
     around: &Around,
     add: &[Term],
-) -> Result<CheckedTerms, Memory>
+) -> Made<CheckedTerms>
     ensures { IfOk result (λ t. t ≡ offset_resolved head.now around.now add.now) }
 {
     let mut terms = Items::new(alloc);
     for term in add {
-        let resolved = resolve_term(alloc, head, around, term)?;
-        push_term(&mut terms, resolved)?;
+        terms.push(resolve_term(alloc, head, around, term)?)?;
     }
     Ok(terms)
 }
 
-fn note_offset(
-    head: &Head,
-    around: &Around,
-    faults: &mut Faults,
-    add: &[Term],
-) -> Result<(), Memory>
+fn note_offset(head: &Head, around: &Around, faults: &mut Faults, add: &[Term]) -> Made<()>
     ensures noted { OnOk result (faults.new ≡ faults.old ++ offset_unknowns head.now around.now add.now) }
 {
     for term in add {
@@ -73,32 +52,26 @@ pub fn resolve_subscript(
     head: &Head,
     around: &Around,
     subscript: &Subscript,
-) -> Result<CheckedSubscript, Memory>
+) -> Made<CheckedSubscript>
     ensures { IfOk result (λ s. s ≡ subscript_resolved head.now around.now subscript.now) }
 {
     match subscript {
-        Subscript::Plain { add } => {
-            let add = resolve_offset(alloc, head, around, add.as_slice())?;
-            Ok(CheckedSubscript::Plain { add })
-        }
+        Subscript::Plain { add } => Ok(CheckedSubscript::Plain {
+            add: resolve_offset(alloc, head, around, add.as_slice())?,
+        }),
         Subscript::Through {
             index_array,
             at,
             inner_add,
             add,
-        } => {
-            let inner_add = resolve_offset(alloc, head, around, inner_add.as_slice())?;
-            let add = resolve_offset(alloc, head, around, add.as_slice())?;
-            Ok(CheckedSubscript::Through {
-                index_array: array_or_zero(head, around, *index_array),
-                at: *at,
-                inner_add,
-                add,
-            })
-        }
+        } => Ok(CheckedSubscript::Through {
+            index_array: array_or_zero(head, around, *index_array),
+            at: *at,
+            inner_add: resolve_offset(alloc, head, around, inner_add.as_slice())?,
+            add: resolve_offset(alloc, head, around, add.as_slice())?,
+        }),
         Subscript::Scalar(scalar) => {
-            let scalar = resolve(alloc, head, around, scalar)?;
-            Ok(CheckedSubscript::Scalar(scalar))
+            Ok(CheckedSubscript::Scalar(resolve(alloc, head, around, scalar)?))
         }
     }
 }
@@ -109,7 +82,7 @@ pub fn note_subscript(
     around: &Around,
     faults: &mut Faults,
     subscript: &Subscript,
-) -> Result<(), Memory>
+) -> Made<()>
     ensures noted { OnOk result (faults.new ≡ faults.old ++ subscript_unknowns head.now around.now subscript.now) }
 {
     match subscript {

@@ -54,20 +54,20 @@ abbrev pub is_before_by : ℕ → ℕ → ℕ → ℕ → ℕ → ℕ → Bool
 is_before_by line column row line' column' row' =
     nat_lt line line' || (nat_eq line line' && (nat_lt column column' || (nat_eq column column' && nat_lt row row')))
 
-abbrev pub is_before : SourceFault → SourceFault → Bool
-is_before f g = is_before_by f.at.line f.at.column (row_of f.cause) g.at.line g.at.column (row_of g.cause)
+abbrev pub is_fault_before : SourceFault → SourceFault → Bool
+is_fault_before f g = is_before_by f.at.line f.at.column (row_of f.cause) g.at.line g.at.column (row_of g.cause)
 
-abbrev pub Among : SourceFault → List SourceFault → Type 0
-Among f [] = ⊥
-Among f (g ∷ gs) = (f ≡ g) ⊎ Among f gs
+abbrev pub IsOneOf : SourceFault → List SourceFault → Type 0
+IsOneOf f [] = ⊥
+IsOneOf f (g ∷ gs) = (f ≡ g) ⊎ IsOneOf f gs
 
 abbrev pub NoneBefore : SourceFault → List SourceFault → Type 0
 NoneBefore f [] = Unit {0}
-NoneBefore f (g ∷ gs) = (is_before g f ≡ false) × NoneBefore f gs
+NoneBefore f (g ∷ gs) = (is_fault_before g f ≡ false) × NoneBefore f gs
 
 -- a fault of the list, and none is before it
 pub record IsLeast (f : SourceFault) (fs : List SourceFault) : Type 0 where
-  pub among : Among f fs
+  pub among : IsOneOf f fs
   pub least : NoneBefore f fs
 
 -- the first fault of a list, none where the list is empty
@@ -79,7 +79,7 @@ IsFirst (Some f) fs = IsLeast f fs
 
 abbrev pub is_new_least : SourceFault → Option SourceFault → Bool
 is_new_least g None = true
-is_new_least g (Some f) = is_before g f
+is_new_least g (Some f) = is_fault_before g f
 
 -- the earlier of the two; the first where neither is before the other
 abbrev pub lesser : Option SourceFault → SourceFault → Option SourceFault

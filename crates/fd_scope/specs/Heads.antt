@@ -35,14 +35,14 @@ layout_of e = record { name = e.name; extent = unwrap_or e.extent 0 }
 abbrev pub own_layout : ArrayEntry → LayoutName
 own_layout e = record { name = e.name; extent = unwrap_or e.extent 0 }
 
-abbrev pub facts_of : ArrayEntry → ℕ → ℤ → ArrayFacts
-facts_of e decomposition offset = record { name = e.name; extent = unwrap_or e.extent 0; decomposition = decomposition; offset = offset }
+abbrev pub array_facts : ArrayEntry → ℕ → ℤ → ArrayFacts
+array_facts e decomposition offset = record { name = e.name; extent = unwrap_or e.extent 0; decomposition = decomposition; offset = offset }
 
 -- an array that isn't aligned has a decomposition of its own, behind those that there are
 abbrev pub entered : Tables → ArrayEntry → Option Alignment → Tables
-entered t e None = record { arrays = t.arrays ++ facts_of e (length t.layouts) (pos 0) ∷ []; layouts = t.layouts ++ own_layout e ∷ [] }
+entered t e None = record { arrays = t.arrays ++ array_facts e (length t.layouts) (pos 0) ∷ []; layouts = t.layouts ++ own_layout e ∷ [] }
 entered t e (Some to) = record {
-  arrays = t.arrays ++ facts_of e (unwrap_or to.decomposition 0) (unwrap_or to.offset (pos 0)) ∷ [];
+  arrays = t.arrays ++ array_facts e (unwrap_or to.decomposition 0) (unwrap_or to.offset (pos 0)) ∷ [];
   layouts = t.layouts;
 }
 

@@ -44,12 +44,12 @@ constant_value None = None
 constant_value (Some value) = value
 
 -- the value of a scalar, where nothing in it is at fault (a value that is not too large, negated, is not either)
-abbrev pub value_of : List (List ℕ × Known) → SourcePlace → Scalar → Option ℤ
-value_of names here (Number value at) = sized value
-value_of names here (Named name at) = constant_value (as_constant (known names here name))
-value_of names here (Negate' at s (more_of-Scalar inner end_of-Scalar)) = within (option_map neg_ℤ (value_of names here inner))
-value_of names here (Binary' op at s (more_of-Scalar left end_of-Scalar) t (more_of-Scalar right end_of-Scalar)) =
-    within (both op (value_of names here left) (value_of names here right))
+abbrev pub scalar_within : List (List ℕ × Known) → SourcePlace → Scalar → Option ℤ
+scalar_within names here (Number value at) = sized value
+scalar_within names here (Named name at) = constant_value (as_constant (known names here name))
+scalar_within names here (Negate' at s (more_of-Scalar inner end_of-Scalar)) = within (option_map neg_ℤ (scalar_within names here inner))
+scalar_within names here (Binary' op at s (more_of-Scalar left end_of-Scalar) t (more_of-Scalar right end_of-Scalar)) =
+    within (both op (scalar_within names here left) (scalar_within names here right))
 
 -- ScalarTooLarge, at a value
 abbrev pub large_faults : SourcePlace → Option ℤ → List SourceFault
@@ -74,19 +74,20 @@ scalar_faults names here loops (Named name at) = name_faults loops (as_constant 
 scalar_faults names here loops (Negate' at s (more_of-Scalar inner end_of-Scalar)) = scalar_faults names here loops inner
 scalar_faults names here loops (Binary' op at s (more_of-Scalar left end_of-Scalar) t (more_of-Scalar right end_of-Scalar)) =
     scalar_faults names here loops left ++ (scalar_faults names here loops right ++ large_faults at
-    (both op (value_of names here left) (value_of names here right)))
+    (both op (scalar_within names here left) (scalar_within names here right)))
 
 -- ---- the same, at the variants as code writes them
 
-pub value_of-Negate : (names : List (List ℕ × Known)) (here : SourcePlace) (at : SourcePlace) (inner : Scalar)
-    → value_of names here (scalar.Negate at inner) ≡ within (option_map neg_ℤ (value_of names here inner))
+pub scalar_within-Negate : (names : List (List ℕ × Known)) (here : SourcePlace) (at : SourcePlace) (inner : Scalar)
+    → scalar_within names here (scalar.Negate at inner) ≡ within (option_map neg_ℤ (scalar_within names here inner))
 unfolding shape-the_row-Scalar-0 hidden-the_row-Scalar-0 hidden
-value_of-Negate names here at inner = refl
+scalar_within-Negate names here at inner = refl
 
-pub value_of-Binary : (names : List (List ℕ × Known)) (here : SourcePlace) (op : Arith) (at : SourcePlace) (left right : Scalar)
-    → value_of names here (scalar.Binary op at left right) ≡ within (both op (value_of names here left) (value_of names here right))
+pub scalar_within-Binary : (names : List (List ℕ × Known)) (here : SourcePlace) (op : Arith) (at : SourcePlace) (left right : Scalar)
+    → scalar_within names here (scalar.Binary op at left right)
+    ≡ within (both op (scalar_within names here left) (scalar_within names here right))
 unfolding shape-the_row-Scalar-0 hidden-the_row-Scalar-0 hidden
-value_of-Binary names here op at left right = refl
+scalar_within-Binary names here op at left right = refl
 
 pub scalar_faults-Negate : (names : List (List ℕ × Known)) (here : SourcePlace) (loops : List (List ℕ)) (at : SourcePlace) (inner : Scalar)
     → scalar_faults names here loops (scalar.Negate at inner) ≡ scalar_faults names here loops inner
@@ -97,23 +98,24 @@ pub scalar_faults-Binary : (names : List (List ℕ × Known)) (here : SourcePlac
     (left right : Scalar)
     → scalar_faults names here loops (scalar.Binary op at left right)
     ≡ scalar_faults names here loops left ++ (scalar_faults names here loops right ++ large_faults at
-    (both op (value_of names here left) (value_of names here right)))
+    (both op (scalar_within names here left) (scalar_within names here right)))
 unfolding shape-the_row-Scalar-0 hidden-the_row-Scalar-0 hidden
 scalar_faults-Binary names here loops op at left right = refl
 
 -- ---- offsets
 
 -- the value of an offset: its terms added to what stands before, from left to right
-abbrev pub offset_value : List (List ℕ × Known) → SourcePlace → Option ℤ → List Term → Option ℤ
-offset_value names here total [] = total
-offset_value names here total (t ∷ ts) = offset_value names here (within (both (sign_of t.minus) total (value_of names here t.scalar))) ts
+abbrev pub offset_within : List (List ℕ × Known) → SourcePlace → Option ℤ → List Term → Option ℤ
+offset_within names here total [] = total
+offset_within names here total (t ∷ ts) =
+    offset_within names here (within (both (sign_of t.minus) total (scalar_within names here t.scalar))) ts
 
 abbrev pub term_faults : List (List ℕ × Known) → SourcePlace → List (List ℕ) → Option ℤ → Term → List SourceFault
 term_faults names here loops total t = scalar_faults names here loops t.scalar ++ large_faults t.at
-    (both (sign_of t.minus) total (value_of names here t.scalar))
+    (both (sign_of t.minus) total (scalar_within names here t.scalar))
 
 abbrev pub offset_faults : List (List ℕ × Known) → SourcePlace → List (List ℕ) → Option ℤ → List Term → List SourceFault
 offset_faults names here loops total [] = []
 offset_faults names here loops total (t ∷ ts) =
     term_faults names here loops total t ++ offset_faults names here loops
-    (within (both (sign_of t.minus) total (value_of names here t.scalar))) ts
+    (within (both (sign_of t.minus) total (scalar_within names here t.scalar))) ts

@@ -23,7 +23,7 @@ use Rattle.fd_scope.specs.declared.scope.LayoutEntry.{LayoutEntry}
 use Rattle.fd_scope.specs.declared.scope.Scope.{Scope}
 use Rattle.fd_scope.specs.Faults.{fault_if, along}
 use Rattle.fd_scope.specs.Names.{found, as_array, as_decomposition}
-use Rattle.fd_scope.specs.Scalars.{value_of, scalar_faults, offset_value, offset_faults}
+use Rattle.fd_scope.specs.Scalars.{scalar_within, scalar_faults, offset_within, offset_faults}
 
 abbrev pub nothing : Scope
 nothing = record { names = []; arrays = []; layouts = []; reads = []; outputs = [] }
@@ -50,10 +50,11 @@ bad_extent at None = []
 bad_extent at (Some z) = fault_if (not (is_extent z)) at cause.BadExtent
 
 abbrev pub extent_of : Scope → SizedName → Option ℕ
-extent_of scope s = extent_within (value_of scope.names s.at s.extent)
+extent_of scope s = extent_within (scalar_within scope.names s.at s.extent)
 
 abbrev pub extent_faults : Scope → List (List ℕ) → SizedName → List SourceFault
-extent_faults scope loops s = scalar_faults scope.names s.at loops s.extent ++ bad_extent s.extent_at (value_of scope.names s.at s.extent)
+extent_faults scope loops s = scalar_faults scope.names s.at loops s.extent
+    ++ bad_extent s.extent_at (scalar_within scope.names s.at s.extent)
 
 -- 64 are the most
 abbrev pub is_full : {A : Type 0} → List A → Bool
@@ -65,7 +66,7 @@ abbrev pub with_name : Scope → List ℕ → SourcePlace → Meaning → List (
 with_name scope name at meaning = scope.names ++ (name, record { at = at; meaning = meaning }) ∷ []
 
 abbrev pub parameter_entered : Scope → Parameter → Scope
-parameter_entered scope p = record scope { names = with_name scope p.name p.at (Constant (value_of scope.names p.at p.value)) }
+parameter_entered scope p = record scope { names = with_name scope p.name p.at (Constant (scalar_within scope.names p.at p.value)) }
 
 abbrev pub array_entered : Scope → SizedName → Scope
 array_entered scope s = record scope {
@@ -118,9 +119,9 @@ entry_extent None = None
 entry_extent (Some e) = e.extent
 
 -- the extent of a named decomposition
-abbrev pub layout_extent : List LayoutEntry → Option ℕ → Option ℕ
-layout_extent layouts None = None
-layout_extent layouts (Some number) = entry_extent (slice_get layouts number)
+abbrev pub entry_extent_of : List LayoutEntry → Option ℕ → Option ℕ
+entry_extent_of layouts None = None
+entry_extent_of layouts (Some number) = entry_extent (slice_get layouts number)
 
 -- element 1 or the last element stands outside; a value that is wanting is no fault here
 abbrev pub is_outside : Option ℤ → Option ℕ → Option ℕ → Bool
@@ -136,7 +137,7 @@ aligned_faults to whole (Some e) name at =
     if is_some e.aligned then fault_if true at (cause.Twice name) else fault_if (is_outside to.offset e.extent whole) at cause.AlignOutside
 
 abbrev pub listed_faults : Alignment → Scope → Listed → List SourceFault
-listed_faults to scope l = aligned_faults to (layout_extent scope.layouts to.decomposition) (array_named scope l.name) l.name l.at
+listed_faults to scope l = aligned_faults to (entry_extent_of scope.layouts to.decomposition) (array_named scope l.name) l.name l.at
 
 abbrev pub entry_aligned : Alignment → List ArrayEntry → ℕ → Option ArrayEntry → List ArrayEntry
 entry_aligned to arrays number None = arrays
@@ -152,7 +153,7 @@ after_aligned to scope l = record scope { arrays = arrays_aligned to scope.array
 abbrev pub alignment_of : Scope → List ℕ → SourcePlace → List Term → Alignment
 alignment_of scope target target_at add = record {
   decomposition = as_decomposition (found scope.names target);
-  offset = offset_value scope.names target_at (Some (pos 0)) add;
+  offset = offset_within scope.names target_at (Some (pos 0)) add;
 }
 
 -- Unknown: no named decomposition
@@ -161,9 +162,9 @@ target_faults scope target at = fault_if (not (is_some (as_decomposition (found 
 
 -- ---- READ, OUTPUT
 
-abbrev pub is_read : List ℤ → Option ℕ → Bool
-is_read reads None = false
-is_read reads (Some number) = list_any (λ v. int_eq v (pos number)) reads
+abbrev pub is_array_read : List ℤ → Option ℕ → Bool
+is_array_read reads None = false
+is_array_read reads (Some number) = list_any (λ v. int_eq v (pos number)) reads
 
 abbrev pub is_output : List OutputName → Option ℕ → Bool
 is_output outputs None = false
@@ -178,14 +179,14 @@ abbrev pub number_of : Scope → Listed → Option ℕ
 number_of scope l = as_array (found scope.names l.name)
 
 abbrev pub read_faults : Scope → Listed → List SourceFault
-read_faults scope l = again_faults (is_read scope.reads (number_of scope l)) (number_of scope l) l
+read_faults scope l = again_faults (is_array_read scope.reads (number_of scope l)) (number_of scope l) l
 
 abbrev pub output_faults : Scope → Listed → List SourceFault
 output_faults scope l = again_faults (is_output scope.outputs (number_of scope l)) (number_of scope l) l
 
 abbrev pub reads_with : List ℤ → Option ℕ → List ℤ
 reads_with reads None = reads
-reads_with reads (Some number) = if is_read reads (Some number) then reads else reads ++ pos number ∷ []
+reads_with reads (Some number) = if is_array_read reads (Some number) then reads else reads ++ pos number ∷ []
 
 abbrev pub outputs_with : List OutputName → Option ℕ → SourcePlace → List OutputName
 outputs_with outputs None at = outputs

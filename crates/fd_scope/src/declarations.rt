@@ -3,12 +3,13 @@ ghost use Rattle.std.specs.List.{list_any};
 ghost use Rattle.fd_program.specs.declared.array.OutputName.{OutputName};
 ghost use Rattle.fd_scope.specs.Faults.{along};
 ghost use Rattle.fd_scope.specs.Names.{as_array, as_decomposition};
-ghost use Rattle.fd_scope.specs.Scalars.{value_of, offset_faults};
+ghost use Rattle.fd_scope.specs.Scalars.{scalar_within, offset_faults};
 ghost use Rattle.fd_scope.specs.Scope.{is_declared, is_extent, extent_within, bad_extent, extent_of, extent_faults, after_parameter};
 ghost use Rattle.fd_scope.specs.Scope.{parameter_faults, after_array, array_faults, after_layout, layout_faults, sized_faults, is_outside};
-ghost use Rattle.fd_scope.specs.Scope.{layout_extent, array_named, aligned_faults, listed_faults, after_aligned, alignment_of};
+ghost use Rattle.fd_scope.specs.Scope.{entry_extent_of, array_named, aligned_faults, listed_faults, after_aligned, alignment_of};
 ghost use Rattle.fd_scope.specs.Scope.{target_faults, after_declaration, declaration_faults, declared, declared_faults, nothing};
-ghost use Rattle.fd_scope.specs.Scope.{arrays_aligned, is_read, is_output, again_faults, reads_with, outputs_with, after_read, read_faults};
+ghost use Rattle.fd_scope.specs.Scope.{arrays_aligned, is_array_read, is_output, again_faults, reads_with, outputs_with, after_read};
+ghost use Rattle.fd_scope.specs.Scope.{read_faults};
 ghost use Rattle.fd_scope.specs.Scope.{after_output, output_faults};
 
 use crate::scalars::{declared_offset, declared_value};
@@ -29,13 +30,9 @@ const MOST_NAMES: usize = 64;
 pub fn array_number(known: Option<Known>) -> Option<u32>
     ensures { result ≡ as_array known }
 {
-    match known {
-        Some(known) => match known.meaning {
-            Meaning::Constant(_) => None,
-            Meaning::Array(number) => Some(number),
-            Meaning::Decomposition(_) => None,
-        },
-        None => None,
+    match known?.meaning {
+        Meaning::Array(number) => Some(number),
+        _ => None,
     }
 }
 
@@ -43,13 +40,9 @@ pub fn array_number(known: Option<Known>) -> Option<u32>
 fn decomposition_number(known: Option<Known>) -> Option<u32>
     ensures { result ≡ as_decomposition known }
 {
-    match known {
-        Some(known) => match known.meaning {
-            Meaning::Constant(_) => None,
-            Meaning::Array(_) => None,
-            Meaning::Decomposition(number) => Some(number),
-        },
-        None => None,
+    match known?.meaning {
+        Meaning::Decomposition(number) => Some(number),
+        _ => None,
     }
 }
 
@@ -233,15 +226,9 @@ fn array_of(scope: &Scope, name: Name) -> Option<ArrayEntry>
 }
 
 fn extent_of_layout(layouts: &[LayoutEntry], decomposition: Option<u32>) -> Option<u64>
-    ensures { result ≡ layout_extent layouts.now decomposition }
+    ensures { result ≡ entry_extent_of layouts.now decomposition }
 {
-    match decomposition {
-        Some(number) => match layouts.get(number as usize) {
-            Some(entry) => entry.extent,
-            None => None,
-        },
-        None => None,
-    }
+    layouts.get(decomposition? as usize)?.extent
 }
 
 fn outside(offset: Option<i64>, extent: Option<u64>, whole: Option<u64>) -> bool
@@ -417,7 +404,7 @@ fn note_again(
 }
 
 fn is_read_number(reads: &Numbers, number: Option<u32>) -> bool
-    ensures { result ≡ is_read reads.now number }
+    ensures { result ≡ is_array_read reads.now number }
 {
     match number {
         Some(number) => reads.has(u64::from(number)),

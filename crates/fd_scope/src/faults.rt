@@ -1,14 +1,14 @@
 ghost use Rattle.std.specs.Prelude.{◌≡◌, [], ◌++◌, length, OnOk, None, fold};
-ghost use Rattle.fd_scope.specs.Faults.{fault_if, row_of, is_before_by, is_before, is_new_least, lesser, IsFirst};
+ghost use Rattle.fd_scope.specs.Faults.{fault_if, row_of, is_before_by, is_fault_before, is_new_least, lesser, IsFirst};
 
-use fd_words::{Memory, SourceCause, SourceFault, SourcePlace};
+use fd_words::{List, Memory, SourceCause, SourceFault, SourcePlace};
 use std::alloc::Global;
 use std::marker::Model;
 
 /// All faults found so far, seen as a list.
 #[derive(Drop)]
 pub struct Faults {
-    items: Vec<SourceFault>,
+    items: List<SourceFault>,
 }
 
 impl Model for Faults {
@@ -17,7 +17,7 @@ impl Model for Faults {
 
     ghost Value = { List SourceFault };
 
-    ghost view = { λ n. n.items.items };
+    ghost view = { λ n. n.items };
 }
 
 impl Faults {
@@ -26,7 +26,7 @@ impl Faults {
         ensures { result ≡ [] }
     {
         Faults {
-            items: Vec::new(alloc),
+            items: List::new(alloc),
         }
     }
 
@@ -35,11 +35,7 @@ impl Faults {
         ensures noted { OnOk result (self.new ≡ self.old ++ fault_if test at cause) }
     {
         if test {
-            let fault = SourceFault { at, cause };
-            match self.items.push(fault) {
-                Ok(()) => Ok(()),
-                Err(_) => Err(Memory),
-            }
+            self.items.push(SourceFault { at, cause })
         } else {
             Ok(())
         }
@@ -48,7 +44,7 @@ impl Faults {
     pub fn len(&self) -> usize
         ensures { result ≡ length self.now }
     {
-        self.items.len()
+        self.items.as_slice().len()
     }
 
     /// The first fault, by place and by row of the table of faults.
@@ -106,7 +102,7 @@ fn less(
 }
 
 fn comes_before(fault: &SourceFault, other: &SourceFault) -> bool
-    ensures { result ≡ is_before fault.now other.now }
+    ensures { result ≡ is_fault_before fault.now other.now }
 {
     less(
         fault.at.line,

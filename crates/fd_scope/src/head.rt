@@ -1,5 +1,6 @@
 ghost use Rattle.std.specs.Prelude.{◌≡◌, ◌++◌, ◌∷◌, [], map, OnOk, IfOk};
-ghost use Rattle.fd_scope.specs.Heads.{with_loop_of, loop_names, layout_of, own_layout, facts_of, entered, after_entry, tables_of, head_of};
+ghost use Rattle.fd_scope.specs.Heads.{with_loop_of, loop_names, layout_of, own_layout, array_facts, entered, after_entry, tables_of};
+ghost use Rattle.fd_scope.specs.Heads.{head_of};
 ghost use Rattle.fd_scope.specs.Heads.{head_faults};
 
 use crate::declarations::enter_all;
@@ -75,27 +76,18 @@ fn layout(entry: &LayoutEntry) -> LayoutName
     }
 }
 
-fn push_layout(layouts: &mut LayoutNames, layout: LayoutName) -> Result<(), Memory>
-    ensures { OnOk result (layouts.new ≡ layouts.old ++ layout ∷ []) }
-{
-    match layouts.push(layout) {
-        Ok(()) => Ok(()),
-        Err(_) => Err(Memory),
-    }
-}
-
 fn named_layouts(alloc: Global, entries: &[LayoutEntry]) -> Result<LayoutNames, Memory>
     ensures { IfOk result (λ l. l ≡ map layout_of entries.now) }
 {
     let mut layouts = Items::new(alloc);
     for entry in entries {
-        push_layout(&mut layouts, layout(entry))?;
+        layouts.push(layout(entry))?;
     }
     Ok(layouts)
 }
 
 fn facts(entry: &ArrayEntry, decomposition: u32, offset: i64) -> ArrayFacts
-    ensures { result ≡ facts_of entry.now decomposition offset }
+    ensures { result ≡ array_facts entry.now decomposition offset }
 {
     ArrayFacts {
         name: entry.name,
@@ -118,10 +110,8 @@ impl Tables {
     fn push_array(&mut self, facts: ArrayFacts) -> Result<(), Memory>
         ensures { OnOk result (self.new ≡ record self.old { arrays = self.old.arrays ++ facts ∷ [] }) }
     {
-        match self.arrays.push(facts) {
-            Ok(()) => Ok(()),
-            Err(_) => Err(Memory),
-        }
+        self.arrays.push(facts)?;
+        Ok(())
     }
 
     fn enter(&mut self, entry: &ArrayEntry, aligned: Option<Alignment>) -> Result<(), Memory>
@@ -130,7 +120,7 @@ impl Tables {
         match aligned {
             None => {
                 let number = narrow(self.layouts.len())?;
-                push_layout(&mut self.layouts, own(entry))?;
+                self.layouts.push(own(entry))?;
                 self.push_array(facts(entry, number, 0))
             }
             Some(to) => {

@@ -2,8 +2,9 @@ ghost use Rattle.std.specs.Prelude.{◌≡◌, ◌++◌, pos, neg_ℤ, OnOk, IfO
 ghost use Rattle.fd_words.specs.Operators.{sign_of};
 ghost use Rattle.fd_scope.specs.Names.{known, as_constant};
 ghost use Rattle.std.specs.Option.{option_map};
-ghost use Rattle.fd_scope.specs.Scalars.{is_large, both, sized, within, large_faults, name_faults, no_scalar, value_of, constant_value};
-ghost use Rattle.fd_scope.specs.Scalars.{scalar_faults, term_faults, offset_value, offset_faults};
+ghost use Rattle.fd_scope.specs.Scalars.{is_large, both, sized, within, large_faults, name_faults, no_scalar, scalar_within};
+ghost use Rattle.fd_scope.specs.Scalars.{constant_value};
+ghost use Rattle.fd_scope.specs.Scalars.{scalar_faults, term_faults, offset_within, offset_faults};
 
 use crate::{Faults, Known, LoopNames, Meaning, Names};
 use fd_syntax::{Scalar, Term};
@@ -117,7 +118,7 @@ pub fn declared_value(
     faults: &mut Faults,
     scalar: &Scalar,
 ) -> Result<Option<i64>, Memory>
-    ensures value { IfOk result (λ v. v ≡ value_of names.now here scalar.now) }
+    ensures value { IfOk result (λ v. v ≡ scalar_within names.now here scalar.now) }
     ensures noted { OnOk result (faults.new ≡ faults.old ++ scalar_faults names.now here loops.now scalar.now) }
 {
     match scalar {
@@ -127,7 +128,7 @@ pub fn declared_value(
             want_scalar(loops, faults, known, *name, *at)?;
             Ok(value_known(known))
         }
-        Scalar::Negate { at: _, inner } => {
+        Scalar::Negate { inner, .. } => {
             let value = declared_value(names, here, loops, faults, inner.get())?;
             Ok(negate(value))
         }
@@ -152,7 +153,7 @@ fn add_term(
     total: Option<i64>,
     term: &Term,
 ) -> Result<Option<i64>, Memory>
-    ensures value { IfOk result (λ v. v ≡ within (both (sign_of term.now.minus) total (value_of names.now here term.now.scalar))) }
+    ensures value { IfOk result (λ v. v ≡ within (both (sign_of term.now.minus) total (scalar_within names.now here term.now.scalar))) }
     ensures noted { OnOk result (faults.new ≡ faults.old ++ term_faults names.now here loops.now total term.now) }
 {
     let value = declared_value(names, here, loops, faults, &term.scalar)?;
@@ -171,7 +172,7 @@ pub fn declared_offset(
     faults: &mut Faults,
     terms: &[Term],
 ) -> Result<Option<i64>, Memory>
-    ensures value { IfOk result (λ v. v ≡ offset_value names.now here (Some (pos 0)) terms.now) }
+    ensures value { IfOk result (λ v. v ≡ offset_within names.now here (Some (pos 0)) terms.now) }
     ensures noted { OnOk result (faults.new ≡ faults.old ++ offset_faults names.now here loops.now (Some (pos 0)) terms.now) }
 {
     let mut total = Some(0);

@@ -19,18 +19,12 @@ pub struct ArrayEntry {
     pub aligned: Option<Alignment>,
 }
 
-/// The arrays by number, from 0.
-pub type ArrayEntries = Items<ArrayEntry>;
-
 /// A named decomposition.
 #[derive(Clone, Copy, Debug, PartialEq, Eq)]
 pub struct LayoutEntry {
     pub name: Name,
     pub extent: Option<u64>,
 }
-
-/// The named decompositions by number, from 0.
-pub type LayoutEntries = Items<LayoutEntry>;
 
 /// What is declared so far.
 #[derive(Drop)]
@@ -48,3 +42,9 @@ pub struct Tables {
     pub arrays: ArrayList,
     pub layouts: LayoutNames,
 }
+
+/// The arrays by number, from 0.
+pub type ArrayEntries = Items<ArrayEntry>;
+
+/// The named decompositions by number, from 0.
+pub type LayoutEntries = Items<LayoutEntry>;

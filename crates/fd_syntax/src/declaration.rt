@@ -10,9 +10,6 @@ pub struct Parameter {
     pub value: Scalar,
 }
 
-/// The constants of a PARAMETER line.
-pub type ParameterList = Items<Parameter>;
-
 /// An array or a decomposition with its extent. The place of the extent is that of its first token.
 #[derive(Debug, Drop)]
 pub struct SizedName {
@@ -22,15 +19,18 @@ pub struct SizedName {
     pub extent_at: SourcePlace,
 }
 
-/// The names of an INTEGER*8 or a DECOMPOSITION line.
-pub type SizedNameList = Items<SizedName>;
-
 /// A name in a list.
 #[derive(Clone, Copy, Debug, PartialEq, Eq)]
 pub struct Listed {
     pub name: Name,
     pub at: SourcePlace,
 }
+
+/// The constants of a PARAMETER line.
+pub type ParameterList = Items<Parameter>;
+
+/// The names of an INTEGER*8 or a DECOMPOSITION line.
+pub type SizedNameList = Items<SizedName>;
 
 /// The names of an ALIGN, READ or OUTPUT line.
 pub type ListedList = Items<Listed>;

@@ -17,11 +17,11 @@ use Rattle.fd_command.specs.declared.request.Refused.TheVariants as request
 use Rattle.fd_command.specs.declared.request.Request.{Request}
 use Rattle.fd_front.specs.declared.source.Source.{Source}
 use Rattle.fd_load.specs.Files.{file_of}
-use Rattle.fd_top.specs.Outcomes.{status_of_run, IsRun, PlaysBy, Plays, IsText, data_read, SourceFailed, Accepted}
-use Rattle.fd_top.specs.Outcomes.{TextStops, refused, unread_file, faulty_file, Stops, unread, too_long, in_text}
+use Rattle.fd_top.specs.Outcomes.{status_of_run, IsRunStatus, PlaysBy, PlaysRun, IsText, data_read, SourceFailed, Accepted}
+use Rattle.fd_top.specs.Outcomes.{TextStops, refused, unread_file, faulty_file, ReadingStops, unread, too_long, in_text}
 use Rattle.fd_top.specs.Outcomes.{CallStops, untaken, stopped, ToCome, stops, ran}
 use Rattle.fd_top.specs.Answers.{RunsBy, CutsBy, IsAnswered, the_source, an_array, NoneFailed, RanRight}
-use Rattle.fd_top.specs.Ready.{IsCalled, IsSound, Tells}
+use Rattle.fd_top.specs.Ready.{IsCalled, IsSoundRequest, Tells}
 use Rattle.fd_top.specs.Threads.{RunsOnThreads, has_no_turns, without_turns}
 use Rattle.fd_top.specs.declared.ready.Call.{Call}
 
@@ -34,7 +34,7 @@ tells asked (Err request.NotTaken) taken none = none refl
 tells asked (Err request.Memory) taken none = tt
 
 pub sound : (r : Result Request command.Refused) → IfOk r (λ q. 1 ≤ q.manner.nodes) → IfOk r (λ q. q.manner.nodes ≤ 16)
-    → IfOk r (λ q. HasMeshInRange q.origin) → IsSound r
+    → IfOk r (λ q. HasMeshInRange q.origin) → IsSoundRequest r
 sound (Ok q) some few range = (record { some = some; few = few }, range)
 sound (Err e) some few range = tt
 
@@ -51,11 +51,11 @@ none_taken o e = ap (option_and_then without_turns) e
 
 -- ---- the status of a run
 
-is_run_status : (o : Option Refused) (n : ℕ) → n ≡ status_of_run o → IsRun n
+is_run_status : (o : Option Refused) (n : ℕ) → n ≡ status_of_run o → IsRunStatus n
 is_run_status None n e = inl e
 is_run_status (Some r) n e = inr e
 
-not_run : (n : ℕ) → (n ≡ 0 → ⊥) → (n ≡ 3 → ⊥) → IsRun n → ⊥
+not_run : (n : ℕ) → (n ≡ 0 → ⊥) → (n ≡ 3 → ⊥) → IsRunStatus n → ⊥
 not_run n no_zero no_three (inl e) = no_zero e
 not_run n no_zero no_three (inr e) = no_three e
 
@@ -65,7 +65,7 @@ HaveRunStatus {A} Runs =
     (m : Manner) (s : Source) (store : List (List ℤ)) (o : Outcome A) → Runs m s store o
     → o.status ≡ status_of_run (run_of s.checked store).refused
 
-pub plays_status : HaveRunStatus Plays
+pub plays_status : HaveRunStatus PlaysRun
 plays_status m s store o p = by m.plain p
   where
     by : (plain : Bool) → PlaysBy plain m s store o → o.status ≡ status_of_run (run_of s.checked store).refused
@@ -75,18 +75,18 @@ plays_status m s store o p = by m.plain p
 pub threads_status : HaveRunStatus RunsOnThreads
 threads_status m s store o t = t.run.status
 
-text_no_run : {r : Reading} {text : List ℕ} {status : ℕ} {line : List ℕ} → TextStops r text status line → IsRun status → ⊥
+text_no_run : {r : Reading} {text : List ℕ} {status : ℕ} {line : List ℕ} → TextStops r text status line → IsRunStatus status → ⊥
 text_no_run (refused fault at) run = not_run 65 (λ z. omega (arith, z)) (λ z. omega (arith, z)) run
 text_no_run (unread_file s is array l) run = not_run 69 (λ z. omega (arith, z)) (λ z. omega (arith, z)) run
 text_no_run (faulty_file s is array fault l) run = not_run 66 (λ z. omega (arith, z)) (λ z. omega (arith, z)) run
 
-stop_no_run : {origin : AskedOrigin} {r : Reading} {status : ℕ} {line : List ℕ} → Stops origin r status line → IsRun status → ⊥
+stop_no_run : {origin : AskedOrigin} {r : Reading} {status : ℕ} {line : List ℕ} → ReadingStops origin r status line → IsRunStatus status → ⊥
 stop_no_run (unread name rose) run = not_run 69 (λ z. omega (arith, z)) (λ z. omega (arith, z)) run
 stop_no_run (too_long long) run = not_run 65 (λ z. omega (arith, z)) (λ z. omega (arith, z)) run
 stop_no_run (in_text text held short status line s) run = text_no_run s run
 
 call_no_run : {usage : List ℕ} {request : Option Asked} {r : Reading} {status : ℕ} {line : List ℕ} → CallStops usage request r status line
-    → IsRun status → ⊥
+    → IsRunStatus status → ⊥
 call_no_run (untaken is) run = not_run 2 (λ z. omega (arith, z)) (λ z. omega (arith, z)) run
 call_no_run (stopped w is status line s) run = stop_no_run s run
 
@@ -142,7 +142,7 @@ module _ {A : Type 0} (usage : List ℕ) (Runs : RunsBy A) (has_status : HaveRun
   failed_source w is (file f) at name rose none = none name (the_source w is name (at ∙ ap file (sym rose.0))) rose.1
   failed_source w is (mesh seed size) at name rose none = absurd rose
 
-  failed_stop : {status : ℕ} {line : List ℕ} (w : Asked) → request ≡ Some w → NoneFailed request r → Stops w.origin r status line
+  failed_stop : {status : ℕ} {line : List ℕ} (w : Asked) → request ≡ Some w → NoneFailed request r → ReadingStops w.origin r status line
       → status ≡ 69 → ⊥
   failed_stop w is none (unread name rose) e = failed_source w is w.origin refl name rose none
   failed_stop w is none (too_long long) e = omega (arith, e)
@@ -166,12 +166,12 @@ module _ {A : Type 0} (usage : List ℕ) (Runs : RunsBy A) (has_status : HaveRun
 
   -- ---- a run
 
-  ran_by : {o : Outcome A} (result : ℕ) (old new : Left A) → ToCome usage Runs request r o → IsRun result → IsWhole o result old new
+  ran_by : {o : Outcome A} (result : ℕ) (old new : Left A) → ToCome usage Runs request r o → IsRunStatus result → IsWhole o result old new
       → RanRight Runs request r result old new
-  ran_by result old new (stops status line s) run whole = absurd (call_no_run s (subst IsRun whole.status run))
+  ran_by result old new (stops status line s) run whole = absurd (call_no_run s (subst IsRunStatus whole.status run))
   ran_by result old new (ran a o runs) run whole = record { accepted = a; outcome = o; run = runs; whole = whole }
 
-  pub ran_right : (result : ℕ) (old new : Left A) → IsAnswered usage Runs IsCut request r result old new → IsRun result
+  pub ran_right : (result : ℕ) (old new : Left A) → IsAnswered usage Runs IsCut request r result old new → IsRunStatus result
       → RanRight Runs request r result old new
   ran_right result old new ends run =
       let whole = ended_whole (ToCome usage Runs request r) (IsCut request r) result old new

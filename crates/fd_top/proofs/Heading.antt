@@ -19,12 +19,13 @@ use Rattle.fd_edge.specs.Endings.{Outcome, Left, letters_after, IsWhole}
 use Rattle.fd_edge.specs.Readings.{Reading}
 use Rattle.fd_top.specs.Outcomes.{rule_of}
 use Rattle.fd_top.specs.Answers.{RanRight}
-use Rattle.fd_top.specs.Threads.{due_for, HasLetters, RunsOnThreads}
+use Rattle.fd_top.specs.Threads.{due_for, HasDueLetters, RunsOnThreads}
 use Rattle.fd_top.specs.Headline.{InspectionsStand, DataIsCarried, NothingIsLeft, IsRight, Headline}
 
 -- ---- what they say
 
-module _ (m : Manner) (s : Source) (store : List (List ℤ)) (mail : Mail) (known : IsChecked s.checked) (h : HasLetters m s store mail) where
+module _ (m : Manner) (s : Source) (store : List (List ℤ))
+    (mail : Mail) (known : IsChecked s.checked) (h : HasDueLetters m s store mail) where
   abbrev seats : List MailSeat
   seats = mail.seats.items
 
@@ -88,7 +89,7 @@ pub headline : (request : Option Asked) (r : Reading) (result : ℕ) (old new : 
     → Headline request r result old new
 headline request r result old new t = record { accepted = t.accepted; right = by t.outcome.letters t.run.letters t.whole.letters }
   where
-    by : (letters : Option Mail) → IsSomeAnd letters (HasLetters t.accepted.asked.manner t.accepted.source t.accepted.store)
+    by : (letters : Option Mail) → IsSomeAnd letters (HasDueLetters t.accepted.asked.manner t.accepted.source t.accepted.store)
         → new.letters ≡ letters_after letters old.letters
         → IsRight t.accepted.asked.manner t.accepted.source t.accepted.store result old new
     by None h is = absurd h

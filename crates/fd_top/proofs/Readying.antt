@@ -14,7 +14,7 @@ use Rattle.fd_command.specs.Asked.{Asked, file, mesh}
 use Rattle.fd_command.specs.declared.request.Refused as command
 use Rattle.fd_command.specs.declared.request.Refused.TheVariants as request
 use Rattle.fd_front.specs.Lines.{fault_line}
-use Rattle.fd_front.specs.Sources.{IsSource, IsRead}
+use Rattle.fd_front.specs.Sources.{IsSource, IsReadAs}
 use Rattle.fd_front.specs.declared.source.Source.{Source}
 use Rattle.fd_load.specs.LoadLaws.{loaded_earlier}
 use Rattle.fd_load.specs.Loads.{IsLoaded}
@@ -23,8 +23,9 @@ use Rattle.fd_load.specs.declared.store.LoadStop.TheVariants as load
 use Rattle.fd_mesh.specs.Source.{source_of}
 use Rattle.fd_mesh.specs.Mesh.{files_of}
 use Rattle.fd_mesh.specs.declared.files.FileData.{FileData}
-use Rattle.fd_top.specs.Made.{told_by}
-use Rattle.fd_top.specs.Outcomes.{Gives, AreAccepted, TextStops, refused, unread_file, faulty_file, Stops, in_text, CallStops, untaken}
+use Rattle.fd_top.specs.Made.{told_made}
+use Rattle.fd_top.specs.Outcomes.{Gives, AreAccepted, TextStops, refused, unread_file, faulty_file, ReadingStops, in_text, CallStops}
+use Rattle.fd_top.specs.Outcomes.{untaken}
 use Rattle.fd_top.specs.Outcomes.{stopped}
 use Rattle.fd_top.specs.Ready.{IsRefused, IsUnloaded, IsUntaken, Tells}
 
@@ -57,7 +58,7 @@ stop_line P status text line stop is p same = subst (StopsAs P) (sym is) (by lin
     by (Ok l) e = subst (λ (x : List ℕ). P status x) (sym e) p
     by (Err m) e = tt
 
-refused_line : (r : Reading) (text : List ℕ) (s : SourceStop) (status : ℕ) (line : List ℕ) → IsRead text (Err s)
+refused_line : (r : Reading) (text : List ℕ) (s : SourceStop) (status : ℕ) (line : List ℕ) → IsReadAs text (Err s)
     → IsRefused s status line → TextStops r text status line
 refused_line r text (stop.Fault fault) status line is e =
     said (TextStops r text) 65 (fault_line fault) status line (refused fault is) e
@@ -71,7 +72,7 @@ unloaded_line r text s (load.Fault array fault) status line is l e =
     said (TextStops r text) 66 _ status line (faulty_file s is array fault l) e
 unloaded_line r text s load.Memory status line is l e = absurd e
 
-pub refused_text : (r : Reading) (text : List ℕ) (s : SourceStop) (stop : Stop) → IsRead text (Err s) → StopsAs (IsRefused s) stop
+pub refused_text : (r : Reading) (text : List ℕ) (s : SourceStop) (stop : Stop) → IsReadAs text (Err s) → StopsAs (IsRefused s) stop
     → StopsAs (TextStops r text) stop
 refused_text r text s stop is e =
     stops_more (IsRefused s) (TextStops r text) stop (λ status line. refused_line r text s status line is) e
@@ -92,9 +93,9 @@ untaken_call usage asked r request.Memory stop none says =
 
 -- the line of what is asked for
 pub stopped_call : (usage : List ℕ) (asked : Option Asked) (r : Reading) (w : Asked) (stop : Stop) → asked ≡ Some w
-    → StopsAs (Stops w.origin r) stop → StopsAs (CallStops usage asked r) stop
+    → StopsAs (ReadingStops w.origin r) stop → StopsAs (CallStops usage asked r) stop
 stopped_call usage asked r w stop is says =
-    stops_more (Stops w.origin r) (CallStops usage asked r) stop (λ status line s. stopped w is status line s) says
+    stops_more (ReadingStops w.origin r) (CallStops usage asked r) stop (λ status line s. stopped w is status line s) says
 
 -- ---- after an earlier count
 
@@ -113,8 +114,14 @@ stops_earlier contents before from now text later (faulty_file s is array fault 
 
 -- ---- a text that was read from a file
 
-module _ (name : List ℕ) (contents middle : Told) (before from now : Counts) (text : List ℕ)
-    (held : IsHeld contents name text) (short : length text ≤ 1048576) (same : middle ≡ contents) (later : NoneFell before from) where
+module _ (name : List ℕ) (contents middle : Told) (before from now : Counts) (text bytes : List ℕ) (is_text : text ≡ bytes)
+    (are_held : IsHeld contents name bytes) (few : length bytes ≤ 1048576) (same : middle ≡ contents) (later : NoneFell before from) where
+  held : IsHeld contents name text
+  held = subst (IsHeld contents name) (sym is_text) are_held
+
+  short : length text ≤ 1048576
+  short = subst (λ (t : List ℕ). length t ≤ 1048576) (sym is_text) few
+
   pub file_gives : (s : Source) (store : List (List ℤ)) → Gives (reading middle from now) text s store
       → AreAccepted (file name) (reading contents before now) s store
   file_gives s store g = record {
@@ -126,9 +133,9 @@ module _ (name : List ℕ) (contents middle : Told) (before from now : Counts) (
   }
 
   pub file_stops : (stop : Stop) → StopsAs (TextStops (reading middle from now) text) stop
-      → StopsAs (Stops (file name) (reading contents before now)) stop
+      → StopsAs (ReadingStops (file name) (reading contents before now)) stop
   file_stops stop s =
-      stops_more (TextStops (reading middle from now) text) (Stops (file name) (reading contents before now)) stop
+      stops_more (TextStops (reading middle from now) text) (ReadingStops (file name) (reading contents before now)) stop
       (λ status line t. in_text text held short status line
       (stops_earlier contents before from now text later (subst (λ (told : Told). TextStops (reading told from now) text status line) same
       t))) s
@@ -156,18 +163,18 @@ module _ (seed size seed-1 size-1 len : ℕ) (r : Reading) (made text : List ℕ
   same : files ≡ files_of seed size
   same = are_files ∙ ap (λ n. files_of n size-1) same_seed ∙ ap (files_of seed) same_size
 
-  pub mesh_gives : (s : Source) (store : List (List ℤ)) → Gives (reading (told_by files) no_faults no_faults) text s store
+  pub mesh_gives : (s : Source) (store : List (List ℤ)) → Gives (reading (told_made files) no_faults no_faults) text s store
       → AreAccepted (mesh seed size) r s store
   mesh_gives s store g = record {
     text = text;
     held = whole;
     short = little;
-    gives = subst (λ (fs : List FileData). Gives (reading (told_by fs) no_faults no_faults) text s store) same g;
+    gives = subst (λ (fs : List FileData). Gives (reading (told_made fs) no_faults no_faults) text s store) same g;
   }
 
-  pub mesh_stops : (stop : Stop) → StopsAs (TextStops (reading (told_by files) no_faults no_faults) text) stop
-      → StopsAs (Stops (mesh seed size) r) stop
+  pub mesh_stops : (stop : Stop) → StopsAs (TextStops (reading (told_made files) no_faults no_faults) text) stop
+      → StopsAs (ReadingStops (mesh seed size) r) stop
   mesh_stops stop s =
-      stops_more (TextStops (reading (told_by files) no_faults no_faults) text) (Stops (mesh seed size) r) stop
+      stops_more (TextStops (reading (told_made files) no_faults no_faults) text) (ReadingStops (mesh seed size) r) stop
       (λ status line t. in_text text whole little status line
-      (subst (λ (fs : List FileData). TextStops (reading (told_by fs) no_faults no_faults) text status line) same t)) s
+      (subst (λ (fs : List FileData). TextStops (reading (told_made fs) no_faults no_faults) text status line) same t)) s

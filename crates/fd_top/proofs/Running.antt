@@ -24,10 +24,10 @@ use Rattle.chaos_engine.specs.declared.turns.EngineEnd.{EngineEnd}
 use Rattle.chaos_engine.specs.declared.turns.Order.{Order}
 use Rattle.chaos_holdings.specs.declared.session.Session.{Session}
 use Rattle.plan_run.specs.Phases.{due_list}
-use Rattle.fd_top.specs.Outcomes.{AreAccepted, IsPlay, IsRunOf, Plays, PlaysBy, RunsPlainly, RunsInTurns}
+use Rattle.fd_top.specs.Outcomes.{AreAccepted, IsPlay, IsRunOf, PlaysRun, PlaysBy, RunsPlainly, RunsInTurns}
 use Rattle.fd_top.specs.Outcomes.{data_read, order_of, plan_for, status_of_run, written_for}
-use Rattle.fd_top.specs.Ready.{HasNodes, IsRunnable, outcome, session_for}
-use Rattle.fd_top.specs.Threads.{HasLetters, HasSome}
+use Rattle.fd_top.specs.Ready.{HasNodes, IsRunnable, outcome_with, session_for}
+use Rattle.fd_top.specs.Threads.{HasDueLetters, HasSome}
 use Rattle.fd_top.specs.declared.ways.RunEnd.{RunEnd}
 
 -- ---- before a run
@@ -66,14 +66,14 @@ RunTold m s store end e letters x =
     end.text ≡ text_of x.checked store → end.refused ≡ is_some (run_of x.checked store).refused
     → end.report ≡ report_of_program x.checked x.nodes x.rule store
     → e.status ≡ (if end.refused then 3 else 0) → e.text ≡ (if m.report then end.text ++ end.report else end.text)
-    → IsRunOf s store (written_for m s store) (outcome e letters)
+    → IsRunOf s store (written_for m s store) (outcome_with e letters)
 
 pub told : {A : Type 0} (m : Manner) (s : Source) (store : List (List ℤ)) (session : Session) (end : EngineEnd) (e : RunEnd)
     (letters : Option A)
     → session ≡ session_for s m → end.text ≡ text_of session.checked store → end.refused ≡ is_some (run_of session.checked store).refused
     → end.report ≡ report_of_program session.checked session.nodes session.rule store
     → e.status ≡ (if end.refused then 3 else 0) → e.text ≡ (if m.report then end.text ++ end.report else end.text)
-    → IsRunOf s store (written_for m s store) (outcome e letters)
+    → IsRunOf s store (written_for m s store) (outcome_with e letters)
 told m s store session end e letters is =
     subst (RunTold m s store end e letters) (sym is) (λ text refused report status bytes. record {
       status = status_told (run_of s.checked store).refused end.refused e.status refused status;
@@ -95,9 +95,9 @@ played_told m s store session order played is by_order =
 
 -- the letters of a session's run on threads are those of the source's
 pub letters_told : (m : Manner) (s : Source) (store : List (List ℤ)) (session : Session) (mail : Mail) → session ≡ session_for s m
-    → HasDueLists session store mail.seats.items → AreEmptyFrom session.nodes mail.seats.items → HasLetters m s store mail
+    → HasDueLists session store mail.seats.items → AreEmptyFrom session.nodes mail.seats.items → HasDueLetters m s store mail
 letters_told m s store session mail is =
-    subst (λ (x : Session). HasDueLists x store mail.seats.items → AreEmptyFrom x.nodes mail.seats.items → HasLetters m s store mail)
+    subst (λ (x : Session). HasDueLists x store mail.seats.items → AreEmptyFrom x.nodes mail.seats.items → HasDueLetters m s store mail)
     (sym is)
     (λ lists others. record { lists = lists; others = others })
 
@@ -109,11 +109,11 @@ some_told m s store session mail is =
     → HasSome m s store mail) (sym is) (λ sent taken others. record { sent = sent; taken = taken; others = others })
 
 pub plainly : (m : Manner) (s : Source) (store : List (List ℤ)) (o : Outcome Played) → m.plain ≡ true → RunsPlainly s store o
-    → Plays m s store o
+    → PlaysRun m s store o
 plainly m s store o e p = subst (λ (b : Bool). PlaysBy b m s store o) (sym e) p
 
 pub in_turns : (m : Manner) (s : Source) (store : List (List ℤ)) (o : Outcome Played) → m.plain ≡ false → RunsInTurns m s store o
-    → Plays m s store o
+    → PlaysRun m s store o
 in_turns m s store o e p = subst (λ (b : Bool). PlaysBy b m s store o) (sym e) p
 
 -- ---- its end
@@ -126,10 +126,10 @@ always (Err m) p = p
 -- a run that is written, or memory was wanting for it
 pub ends_run : {A : Type 0} (Runs : Outcome A → Type 0) (IsCut : A → A → Type 0) (run : Result RunEnd wanting.Memory) (letters : Option A)
     (result before now : ℕ) (written written-1 : Option (List ℕ)) (old new : A)
-    → IfOk run (λ e. Runs (outcome e letters)) → OnErr run (IsCut old new) → new ≡ letters_after letters old
+    → IfOk run (λ e. Runs (outcome_with e letters)) → OnErr run (IsCut old new) → new ≡ letters_after letters old
     → MatchResult run (λ e. IsWritten e.status e.text result before now written written-1) (λ memory. (result ≡ 70) × (written-1 ≡ written))
     → EndsBy Runs IsCut result (left before written old) (left now written-1 new)
 ends_run Runs IsCut (Ok e) letters result before now written written-1 old new runs cut after w =
-    inl (outcome e letters, (runs, record { wrote = w; letters = after }))
+    inl (outcome_with e letters, (runs, record { wrote = w; letters = after }))
 ends_run Runs IsCut (Err m) letters result before now written written-1 old new runs cut after w =
     inr (record { status = w.0; written = w.1; letters = cut })

@@ -9,8 +9,8 @@ use Rattle.fd_command.specs.declared.request.Manner.{Manner}
 use Rattle.fd_front.specs.Sources.{IsSource}
 use Rattle.fd_front.specs.declared.source.Source.{Source}
 use Rattle.fd_load.specs.Files.{file_of}
-use Rattle.fd_load.specs.Loads.{IsReached}
-use Rattle.fd_top.specs.Outcomes.{IsText, data_read, Accepted, ToCome, usage_line, Plays}
+use Rattle.fd_load.specs.Loads.{IsArrayReached}
+use Rattle.fd_top.specs.Outcomes.{IsText, data_read, Accepted, ToCome, usage_line, PlaysRun}
 use Rattle.bsp_core.specs.declared.played.Played.{Played}
 
 -- the words of a command line
@@ -32,7 +32,7 @@ IsAnswered usage Runs IsCut request r result old new = EndsBy (ToCome usage Runs
 pub data Names (request : Option Asked) (r : Reading) : List ℕ → Type 0 where
   the_source : (w : Asked) → request ≡ Some w → (name : List ℕ) → w.origin ≡ file name → Names request r name
   an_array : (w : Asked) → request ≡ Some w → (text : List ℕ) → IsText r.contents w.origin text → (s : Source) → IsSource text s
-      → (array : ℕ) → IsReached (data_read w.origin r).contents s.checked array
+      → (array : ℕ) → IsArrayReached (data_read w.origin r).contents s.checked array
       → Names request r (file_of (array_at s.checked.arrays array))
 
 -- no read of these files failed in this call
@@ -40,8 +40,8 @@ abbrev pub NoneFailed : Option Asked → Reading → Type 0
 NoneFailed request r = (name : List ℕ) → Names request r name → Rose (r.before name) (r.now name) → ⊥
 
 -- where neither the sink nor such a read failed, what comes is written whole, or memory was wanting
-abbrev pub IsCompleted : {A : Type 0} → List ℕ → RunsBy A → CutsBy A → Option Asked → Reading → ℕ → Left A → Left A → Type 0
-IsCompleted usage Runs IsCut request r result old new =
+abbrev pub HasCompleted : {A : Type 0} → List ℕ → RunsBy A → CutsBy A → Option Asked → Reading → ℕ → Left A → Left A → Type 0
+HasCompleted usage Runs IsCut request r result old new =
     (Rose old.failures new.failures → ⊥) → NoneFailed request r
     → IsComplete (ToCome usage Runs request r) (IsCut request r) result old new
 
@@ -59,7 +59,7 @@ abbrev pub PlayStays : CutsBy Played
 PlayStays request r = Stays
 
 abbrev pub PlayAnswered : Option Asked → Reading → ℕ → Left Played → Left Played → Type 0
-PlayAnswered = IsAnswered usage_line Plays PlayStays
+PlayAnswered = IsAnswered usage_line PlaysRun PlayStays
 
 abbrev pub PlayCompleted : Option Asked → Reading → ℕ → Left Played → Left Played → Type 0
-PlayCompleted = IsCompleted usage_line Plays PlayStays
+PlayCompleted = HasCompleted usage_line PlaysRun PlayStays

@@ -4,9 +4,9 @@ use Rattle.bsp_mail.specs.declared.mail.Mail.{Mail}
 use Rattle.bsp_mail.specs.declared.seat.MailSeat.{MailSeat}
 use Rattle.bsp_mail.specs.Mails.{IsPair, sent_on, taken_on}
 use Rattle.bsp_threads.specs.Alls.{AreEmptyFrom}
-use Rattle.plan_letters.specs.Carried.{stands, executions, carried, places_of, is_at, numbers_where, is_loop, asks_step}
+use Rattle.plan_letters.specs.Carried.{stands, executions, carried, places_of_cells, is_at, numbers_where, is_loop, asks_step}
 use Rattle.plan_letters.specs.DataLetters.{CarriesNothing}
-use Rattle.plan_letters.specs.InspectionLetters.{is_inspecting, is_asking}
+use Rattle.plan_letters.specs.InspectionLetters.{is_inspection_kind, is_asking}
 use Rattle.chaos_letter.specs.declared.kind.Kind.{Kind}
 use Rattle.chaos_letter.specs.declared.kind.Kind.TheVariants as kind
 use Rattle.fd_command.specs.Asked.{Asked}
@@ -44,7 +44,7 @@ pub record InspectionsStand (m : Manner) (s : Source) (store : List (List ℤ)) 
       (executed_in s store)
   pub votes : (p q k : ℕ) → p < m.nodes → q < m.nodes → p ≢ q
       → stands kind.Vote k (sent_on seats p q) ≡ is_at (inspects_step s.checked) (executed_in s store) k
-  pub inspecting : (p q k : ℕ) (sort : Kind) → p < m.nodes → q < m.nodes → p ≢ q → is_inspecting sort ≡ true
+  pub inspecting : (p q k : ℕ) (sort : Kind) → p < m.nodes → q < m.nodes → p ≢ q → is_inspection_kind sort ≡ true
       → stands sort k (sent_on seats p q) ≡ true → is_at (inspects_step s.checked) (executed_in s store) k ≡ true
   pub no_others : (p q k : ℕ) (sort : Kind) → p < m.nodes → q < m.nodes → p ≢ q → is_asking sort ≡ true
       → is_at (asks_step s.checked) (executed_in s store) k ≡ false → stands sort k (sent_on seats p q) ≡ false
@@ -53,10 +53,10 @@ pub record InspectionsStand (m : Manner) (s : Source) (store : List (List ℤ)) 
 pub record LoopIsCarried (m : Manner) (s : Source) (store : List (List ℤ)) (seats : List MailSeat) (p q : ℕ) (past : List Step) (site : ℕ)
     (turn : LoopTurn) : Type 0 where
   pub needed : carried kind.Gather (length past) (sent_on seats q p)
-      ≡ places_of (needed_of (loop_at (scene_for m s store) past site turn) (owners_at (scene_for m s store) past)
+      ≡ places_of_cells (needed_of (loop_at (scene_for m s store) past site turn) (owners_at (scene_for m s store) past)
       (store_at (scene_for m s store) past) p q)
   pub given : carried kind.Scatter (length past) (sent_on seats p q)
-      ≡ places_of (given_of (loop_at (scene_for m s store) past site turn) (owners_at (scene_for m s store) past)
+      ≡ places_of_cells (given_of (loop_at (scene_for m s store) past site turn) (owners_at (scene_for m s store) past)
       (store_at (scene_for m s store) past) p q)
 
 -- Between any two nodes the data letters of each completed FORALL with a range that isn't empty carry exactly the elements that are needed

@@ -38,9 +38,9 @@ pub record HasNodes (m : Manner) : Type 0 where
   pub few : m.nodes ≤ 16
 
 -- a request, if there is one, keeps to the bounds
-abbrev pub IsSound : Result Request Refused → Type 0
-IsSound (Ok r) = HasNodes r.manner × HasMeshInRange r.origin
-IsSound (Err refused) = Unit {0}
+abbrev pub IsSoundRequest : Result Request Refused → Type 0
+IsSoundRequest (Ok r) = HasNodes r.manner × HasMeshInRange r.origin
+IsSoundRequest (Err refused) = Unit {0}
 
 -- a checked program whose steps pass no limit, and a store that fits
 pub record IsRunnable (s : Source) (store : List (List ℤ)) : Type 0 where
@@ -64,8 +64,8 @@ abbrev pub session_for : Source → Manner → Session
 session_for s m = record { checked = s.checked; trace = s.trace; nodes = m.nodes; rule = rule_of m.iterations }
 
 -- what a run tells, with the letters of its nodes
-abbrev pub outcome : {A : Type 0} → RunEnd → Option A → Outcome A
-outcome e letters = record { status = e.status; bytes = e.text; letters = letters }
+abbrev pub outcome_with : {A : Type 0} → RunEnd → Option A → Outcome A
+outcome_with e letters = record { status = e.status; bytes = e.text; letters = letters }
 
 -- the line of words that aren't taken
 abbrev pub IsUntaken : List ℕ → Refused → ℕ → List ℕ → Type 0

@@ -15,7 +15,7 @@ use Rattle.bsp_threads.specs.Alls.{AreEmptyFrom}
 use Rattle.chaos_letter.specs.declared.letter.Letter.{Letter}
 use Rattle.plan_run.specs.Phases.{due_list}
 use Rattle.fd_top.specs.Outcomes.{IsRunOf, rule_of, written_for, Accepted}
-use Rattle.fd_top.specs.Answers.{IsAnswered, IsCompleted}
+use Rattle.fd_top.specs.Answers.{IsAnswered, HasCompleted}
 
 unfoldable pub run_usage_line : List ℕ
 run_usage_line = codes "usage: chaosrun (SOURCE | --mesh SEED --size N) [--nodes N] [--iterations owner|most] [--report]\n"
@@ -44,7 +44,7 @@ abbrev pub due_for : Manner → Source → List (List ℤ) → ℕ → ℕ → L
 due_for m s store p q = due_list s.checked m.nodes (rule_of m.iterations) store p q
 
 -- each pair below the nodes has exactly the letters that are due as sent and as taken, all other pairs are empty
-pub record HasLetters (m : Manner) (s : Source) (store : List (List ℤ)) (mail : Mail) : Type 0 where
+pub record HasDueLetters (m : Manner) (s : Source) (store : List (List ℤ)) (mail : Mail) : Type 0 where
   pub lists : (p q : ℕ) → p < m.nodes → q < m.nodes → p ≢ q
       → (sent_on mail.seats.items p q ≡ due_for m s store p q) × (taken_on mail.seats.items p q ≡ due_for m s store p q)
   pub others : AreEmptyFrom m.nodes mail.seats.items
@@ -58,18 +58,18 @@ pub record HasSome (m : Manner) (s : Source) (store : List (List ℤ)) (mail : M
 -- on threads
 pub record RunsOnThreads (m : Manner) (s : Source) (store : List (List ℤ)) (o : Outcome Mail) : Type 0 where
   pub run : IsRunOf s store (written_for m s store) o
-  pub letters : IsSomeAnd o.letters (HasLetters m s store)
+  pub letters : IsSomeAnd o.letters (HasDueLetters m s store)
 
 -- ---- where memory was wanting
 
 -- the Mail is as it was, or has the first of the letters of a run of what words ask for
-abbrev pub IsCut : Option Asked → Reading → Mail → Mail → Type 0
-IsCut request r old new = (new ≡ old) ⊎ ((a : Accepted request r) × HasSome a.asked.manner a.source a.store new)
+abbrev pub WasCut : Option Asked → Reading → Mail → Mail → Type 0
+WasCut request r old new = (new ≡ old) ⊎ ((a : Accepted request r) × HasSome a.asked.manner a.source a.store new)
 
 -- ---- answers
 
 abbrev pub RunAnswered : Option Asked → Reading → ℕ → Left Mail → Left Mail → Type 0
-RunAnswered = IsAnswered run_usage_line RunsOnThreads IsCut
+RunAnswered = IsAnswered run_usage_line RunsOnThreads WasCut
 
 abbrev pub RunCompleted : Option Asked → Reading → ℕ → Left Mail → Left Mail → Type 0
-RunCompleted = IsCompleted run_usage_line RunsOnThreads IsCut
+RunCompleted = HasCompleted run_usage_line RunsOnThreads WasCut

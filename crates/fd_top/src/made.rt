@@ -1,6 +1,6 @@
 ghost use Rattle.std.specs.Prelude.{◌≡◌, ◌+◌, ◌≤◌, length, Some, IfOk, IfSome};
 ghost use Rattle.fd_outside.specs.Causes.{GivesFrom, HasCause, NoneFell};
-ghost use Rattle.fd_top.specs.Made.{made_content, told_by};
+ghost use Rattle.fd_top.specs.Made.{made_content, told_made};
 
 use fd_mesh::{FileData, FileList};
 use fd_outside::{Failed, Files, copy_from};
@@ -26,7 +26,7 @@ fn content_of<'a>(files: &'a [FileData], name: &str) -> &'a [u8]
 }
 
 impl Files for MadeFiles {
-    ghost contents = { λ made. told_by made.files };
+    ghost contents = { λ made. told_made made.files };
 
     ghost faults = { λ made name. 0 };
 
@@ -34,8 +34,8 @@ impl Files for MadeFiles {
 
     fn read_at(&mut self, name: &str, at: u64, into: &mut [u8]) -> Result<usize, Failed>
         ensures most { IfOk result (λ n. n ≤ length into.old) }
-        ensures bytes { IfOk result (λ n. IfSome (told_by self.old.files name.now) (λ held. GivesFrom held at n into.new)) }
-        ensures same { told_by self.new.files ≡ told_by self.old.files }
+        ensures bytes { IfOk result (λ n. IfSome (told_made self.old.files name.now) (λ held. GivesFrom held at n into.new)) }
+        ensures same { told_made self.new.files ≡ told_made self.old.files }
         ensures cause { HasCause 0 0 result }
         ensures later { NoneFell (λ other. 0) (λ other. 0) }
         ensures counted { 0 ≤ 0 + 1 }

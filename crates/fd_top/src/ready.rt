@@ -7,8 +7,8 @@ ghost use Rattle.fd_edge.specs.Endings.{StopsAs};
 ghost use Rattle.fd_edge.specs.Lines.{data_line, unread_line};
 ghost use Rattle.fd_edge.specs.Readings.{Reading, files_read};
 ghost use Rattle.fd_load.specs.Files.{file_of};
-ghost use Rattle.fd_top.specs.Outcomes.{AreAccepted, CallStops, Gives, Stops, TextStops};
-ghost use Rattle.fd_top.specs.Ready.{CanRun, IsCalled, IsRefused, IsSound, IsUnloaded, IsUntaken, Tells};
+ghost use Rattle.fd_top.specs.Outcomes.{AreAccepted, CallStops, Gives, ReadingStops, TextStops};
+ghost use Rattle.fd_top.specs.Ready.{CanRun, IsCalled, IsRefused, IsSoundRequest, IsUnloaded, IsUntaken, Tells};
 
 use crate::made::MadeFiles;
 use fd_command::{Manner, Origin, Refused, Request};
@@ -124,7 +124,7 @@ fn text_ready<F: Files>(alloc: Global, text: &[u8], files: &mut F) -> Result<Rea
 /// Reads a source's file, and its data files.
 fn file_ready<F: Files>(alloc: Global, name: &str, files: &mut F) -> Result<Ready, Stop>
     ensures ready { IfOk result (λ a. AreAccepted (file name.now) (files_read F.contents F.faults files.old files.new) a.source a.store) }
-    ensures stop { IfErr result (StopsAs (Stops (file name.now) (files_read F.contents F.faults files.old files.new))) }
+    ensures stop { IfErr result (StopsAs (ReadingStops (file name.now) (files_read F.contents F.faults files.old files.new))) }
     ensures contents { F.contents files.new ≡ F.contents files.old }
     ensures faults { NoneFell (F.faults files.old) (F.faults files.new) }
 {
@@ -141,7 +141,7 @@ fn mesh_ready(alloc: Global, seed: u32, size: u32) -> Result<Ready, Stop>
     requires least { 8 ≤ size }
     requires most { size ≤ 100000 }
     ensures ready { (r : Reading) → IfOk result (λ a. AreAccepted (mesh seed size) r a.source a.store) }
-    ensures stop { (r : Reading) → IfErr result (StopsAs (Stops (mesh seed size) r)) }
+    ensures stop { (r : Reading) → IfErr result (StopsAs (ReadingStops (mesh seed size) r)) }
 {
     let Ok(made) = mesh(alloc, u64::from(seed), u64::from(size)) else {
         return Err(Stop::Memory);
@@ -160,7 +160,7 @@ fn origin_ready<F: Files>(alloc: Global, origin: &Origin<'_>, files: &mut F) -> 
     requires range { HasMeshInRange origin.now }
     ensures ready { IfOk result (λ a. AreAccepted (shown_origin origin.now) (files_read F.contents F.faults files.old files.new) a.source
         a.store) }
-    ensures stop { IfErr result (StopsAs (Stops (shown_origin origin.now) (files_read F.contents F.faults files.old files.new))) }
+    ensures stop { IfErr result (StopsAs (ReadingStops (shown_origin origin.now) (files_read F.contents F.faults files.old files.new))) }
     ensures contents { F.contents files.new ≡ F.contents files.old }
     ensures faults { NoneFell (F.faults files.old) (F.faults files.new) }
 {
@@ -178,7 +178,7 @@ pub(crate) fn called<F: Files>(
     usage: &[u8],
     files: &mut F,
 ) -> Result<Call, Stop>
-    requires { IsSound request.now }
+    requires { IsSoundRequest request.now }
     ensures call { (asked : Option Asked) → Tells asked request.now
         → IfOk result (IsCalled asked (files_read F.contents F.faults files.old files.new)) }
     ensures runs { IfOk result CanRun }

@@ -7,8 +7,8 @@ ghost use Rattle.fd_edge.specs.Endings.{leaves};
 ghost use Rattle.fd_edge.specs.Readings.{files_read};
 ghost use Rattle.fd_top.specs.Answers.{RanRight, texts};
 ghost use Rattle.fd_top.specs.Headline.{Headline};
-ghost use Rattle.fd_top.specs.Outcomes.{IsRun};
-ghost use Rattle.fd_top.specs.Ready.{IsSound, Tells};
+ghost use Rattle.fd_top.specs.Outcomes.{IsRunStatus};
+ghost use Rattle.fd_top.specs.Ready.{IsSoundRequest, Tells};
 ghost use Rattle.fd_top.specs.Threads.{RunAnswered, RunCompleted, RunsOnThreads, asked_to_run, has_no_turns};
 
 use crate::ready::called;
@@ -63,14 +63,13 @@ fn run<R: Threads + Wait + Sync, F: Files, S: Sink, G: Gate>(
     gate: &G,
     mail: &mut Mail,
 ) -> u8
-    requires request { IsSound request.now }
+    requires request { IsSoundRequest request.now }
     requires fresh { IsFresh mail.old.queues mail.old.seats.items }
     ensures answer { (asked : Option Asked) → Tells asked request.now → RunAnswered asked
         (files_read F.contents F.faults files.old files.new) result
         (leaves S.faults S.written out.old mail.old) (leaves S.faults S.written out.new mail.new) }
     ensures queues { mail.new.queues ≡ mail.old.queues }
-    ensures contents { F.contents files.new ≡ F.contents files.old }
-    ensures faults { NoneFell (F.faults files.old) (F.faults files.new) }
+    ensures files { (F.contents files.new ≡ F.contents files.old) × NoneFell (F.faults files.old) (F.faults files.new) }
     ensures failures { S.faults out.old ≤ S.faults out.new }
 {
     match called(alloc, request, USAGE, files) {
@@ -112,10 +111,10 @@ pub fn run_program<R: Threads + Wait + Sync, F: Files, S: Sink, G: Gate>(
         (leaves S.faults S.written out.old mail.old) (leaves S.faults S.written out.new mail.new) }
 
     // the headline: text, refusal, inspections, data letters, and nothing left, for every source that is run
-    ensures ran { IsRun result → RanRight RunsOnThreads (asked_to_run (texts words.now))
+    ensures ran { IsRunStatus result → RanRight RunsOnThreads (asked_to_run (texts words.now))
         (files_read F.contents F.faults files.old files.new) result
         (leaves S.faults S.written out.old mail.old) (leaves S.faults S.written out.new mail.new) }
-    ensures headline { IsRun result → Headline (asked_to_run (texts words.now))
+    ensures headline { IsRunStatus result → Headline (asked_to_run (texts words.now))
         (files_read F.contents F.faults files.old files.new) result
         (leaves S.faults S.written out.old mail.old) (leaves S.faults S.written out.new mail.new) }
 

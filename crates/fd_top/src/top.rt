@@ -4,8 +4,8 @@ ghost use Rattle.fd_command.specs.Asked.{Asked, asked};
 ghost use Rattle.fd_edge.specs.Endings.{EndsBy, Stays, leaves};
 ghost use Rattle.fd_edge.specs.Readings.{files_read};
 ghost use Rattle.fd_top.specs.Answers.{PlayAnswered, PlayCompleted, RanRight, texts};
-ghost use Rattle.fd_top.specs.Outcomes.{IsRun, Plays};
-ghost use Rattle.fd_top.specs.Ready.{CanRun, IsSound, Tells};
+ghost use Rattle.fd_top.specs.Outcomes.{IsRunStatus, PlaysRun};
+ghost use Rattle.fd_top.specs.Ready.{CanRun, IsSoundRequest, Tells};
 
 use crate::ready::{Call, called};
 use crate::ways::{end_run, run_in_turns, run_plainly};
@@ -21,7 +21,7 @@ const USAGE: &[u8] =
 /// Runs a source plainly or in turns, and writes what it comes to.
 fn play_call<S: Sink>(alloc: Global, call: Call, out: &mut S, played: &mut Played) -> u8
     requires { CanRun call }
-    ensures ends { EndsBy (Plays call.manner call.ready.source call.ready.store) Stays result
+    ensures ends { EndsBy (PlaysRun call.manner call.ready.source call.ready.store) Stays result
         (leaves S.faults S.written out.old played.old)
         (leaves S.faults S.written out.new played.new) }
     ensures failures { S.faults out.old ≤ S.faults out.new }
@@ -42,13 +42,12 @@ fn play<F: Files, S: Sink>(
     out: &mut S,
     played: &mut Played,
 ) -> u8
-    requires { IsSound request.now }
+    requires { IsSoundRequest request.now }
     ensures answer { (asked : Option Asked) → Tells asked request.now → PlayAnswered asked
         (files_read F.contents F.faults files.old files.new) result
         (leaves S.faults S.written out.old played.old)
         (leaves S.faults S.written out.new played.new) }
-    ensures contents { F.contents files.new ≡ F.contents files.old }
-    ensures faults { NoneFell (F.faults files.old) (F.faults files.new) }
+    ensures files { (F.contents files.new ≡ F.contents files.old) × NoneFell (F.faults files.old) (F.faults files.new) }
     ensures failures { S.faults out.old ≤ S.faults out.new }
 {
     match called(alloc, request, USAGE, files) {
@@ -83,7 +82,7 @@ pub fn play_program<F: Files, S: Sink>(
         (leaves S.faults S.written out.new played.new) }
 
     // the headline: the text of the sequential run, and the refusal, for every source that is run
-    ensures ran { IsRun result → RanRight Plays (asked (texts words.now))
+    ensures ran { IsRunStatus result → RanRight PlaysRun (asked (texts words.now))
         (files_read F.contents F.faults files.old files.new) result
         (leaves S.faults S.written out.old played.old)
         (leaves S.faults S.written out.new played.new) }

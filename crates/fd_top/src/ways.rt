@@ -3,7 +3,7 @@ ghost use Rattle.std.specs.Prelude.{◌≡◌, ◌≤◌, ◌++◌, IfOk, OnErr,
 ghost use Rattle.bsp_mail.specs.Mails.{IsFresh};
 ghost use Rattle.fd_edge.specs.Endings.{IsWritten};
 ghost use Rattle.fd_top.specs.Outcomes.{order_of, rule_of, RunsPlainly, RunsInTurns};
-ghost use Rattle.fd_top.specs.Ready.{HasNodes, IsRunnable, outcome, session_for};
+ghost use Rattle.fd_top.specs.Ready.{HasNodes, IsRunnable, outcome_with, session_for};
 ghost use Rattle.fd_top.specs.Threads.{HasSome, RunsOnThreads};
 
 use crate::ready::Ready;
@@ -103,7 +103,7 @@ fn told(end: EngineEnd, report: bool) -> Result<RunEnd, Memory>
 /// Runs a source on one machine.
 pub(crate) fn run_plainly(alloc: Global, ready: Ready) -> Result<RunEnd, Memory>
     requires { IsRunnable ready.source ready.store }
-    ensures { IfOk result (λ e. RunsPlainly ready.source ready.store (outcome e None)) }
+    ensures { IfOk result (λ e. RunsPlainly ready.source ready.store (outcome_with e None)) }
 {
     let Ready { source, store } = ready;
     let end = run_plain(alloc, &source.checked, &source.trace, store)?;
@@ -122,7 +122,7 @@ pub(crate) fn run_in_turns(
 ) -> Result<RunEnd, Memory>
     requires ready { IsRunnable ready.source ready.store }
     requires nodes { HasNodes manner }
-    ensures runs { IfOk result (λ e. RunsInTurns manner ready.source ready.store (outcome e (Some played.new))) }
+    ensures runs { IfOk result (λ e. RunsInTurns manner ready.source ready.store (outcome_with e (Some played.new))) }
     ensures stays { OnErr result (played.new ≡ played.old) }
 {
     let Ready { source, store } = ready;
@@ -145,7 +145,7 @@ pub(crate) fn run_on_threads<R: Threads + Wait + Sync, G: Gate>(
     requires ready { IsRunnable ready.source ready.store }
     requires nodes { HasNodes manner }
     requires fresh { IsFresh mail.old.queues mail.old.seats.items }
-    ensures runs { IfOk result (λ e. RunsOnThreads manner ready.source ready.store (outcome e (Some mail.new))) }
+    ensures runs { IfOk result (λ e. RunsOnThreads manner ready.source ready.store (outcome_with e (Some mail.new))) }
     ensures some { HasSome manner ready.source ready.store mail.new }
     ensures queues { mail.new.queues ≡ mail.old.queues }
 {

@@ -23,7 +23,7 @@ use Rattle.fd_program.specs.declared.scalar.CheckedScalar.TheBlock.{shape-the_ro
 use Rattle.fd_program.specs.declared.scalar.CheckedTerm.{CheckedTerm}
 use denote.Hole.Carrier.{hidden}
 use Rattle.fd_trace.specs.Sizes.{is_large, IsSmall, large, scalar_faults, offset_faults}
-use Rattle.fd_trace.specs.Outcomes.{outcome, opposed, joined, term_joined}
+use Rattle.fd_trace.specs.Outcomes.{outcome, opposed, joined_scalars, term_joined}
 
 -- ---- values without a fault are small
 
@@ -84,14 +84,14 @@ negate_outcome variables at inner h = opposed_outcome (scalar_value variables in
     (small_value variables h inner)
 
 pub joined_outcome : (op : Arith) (at : SourcePlace) (a b : ℤ) (fs gs : List SourceFault)
-    → outcome (exactly op a b) (fs ++ (gs ++ large at (exactly op a b))) ≡ joined op at (outcome a fs) (outcome b gs)
+    → outcome (exactly op a b) (fs ++ (gs ++ large at (exactly op a b))) ≡ joined_scalars op at (outcome a fs) (outcome b gs)
 joined_outcome op at a b [] [] = refl
 joined_outcome op at a b [] (g ∷ gs) = refl
 joined_outcome op at a b (f ∷ fs) gs = refl
 
 pub binary_outcome : (variables : List ℤ) (op : Arith) (at : SourcePlace) (left right : CheckedScalar)
     → outcome (scalar_value variables (scalar.Binary op at left right)) (scalar_faults variables (scalar.Binary op at left right))
-    ≡ joined op at (outcome (scalar_value variables left) (scalar_faults variables left))
+    ≡ joined_scalars op at (outcome (scalar_value variables left) (scalar_faults variables left))
     (outcome (scalar_value variables right) (scalar_faults variables right))
 unfolding shape-the_row-CheckedScalar-0 hidden-the_row-CheckedScalar-0 hidden
 binary_outcome variables op at left right =
@@ -106,7 +106,7 @@ offset_further : (variables : List ℤ) (op : Arith) (at : SourcePlace) (z v : �
     → large at (exactly op z v) ≡ gs
     → fold (term_joined variables) (Ok (exactly op z v)) ts ≡ outcome (offset_value variables (exactly op z v) ts)
     (offset_faults variables (exactly op z v) ts)
-    → fold (term_joined variables) (joined op at (Ok z) (outcome v fs)) ts
+    → fold (term_joined variables) (joined_scalars op at (Ok z) (outcome v fs)) ts
     ≡ outcome (offset_value variables (exactly op z v) ts) (fs ++ (gs ++ offset_faults variables (exactly op z v) ts))
 offset_further variables op at z v ts [] [] e rest =
     ap (λ (hs : List SourceFault). fold (term_joined variables) (outcome (exactly op z v) hs) ts) e ∙ rest

@@ -19,19 +19,19 @@ use Rattle.fd_program.specs.Loops.{range_of, first_of}
 use Rattle.fd_program.specs.RangeLaws.{range_next}
 use Rattle.fd_program.specs.Trace.{inside_of, steps_of_statement, steps_of}
 use Rattle.fd_trace.specs.declared.budget.Left.{Left}
-use Rattle.fd_trace.specs.Events.{Event, Bad, further, along, Goes, bad, whole, fault_in}
+use Rattle.fd_trace.specs.Events.{Event, Bad, further_event, along, Goes, bad, whole, fault_in}
 use Rattle.fd_trace.specs.Outcomes.{outcome, IsOutcome}
 use Rattle.fd_trace.specs.Way.{way_of, way_of_statement, output_event, IsUnrolled}
 
-pub stuck : (f : SourceFault) (es : List Event) → fold further (Err f) es ≡ Err f
+pub stuck : (f : SourceFault) (es : List Event) → fold further_event (Err f) es ≡ Err f
 stuck f [] = refl
 stuck f (e ∷ es) = stuck f es
 
 pub along_ok : (old mid : Left) (a b : List Event) → along old a ≡ Ok mid → along old (a ++ b) ≡ along mid b
-along_ok old mid a b h = fold-append further (Ok old) a b ∙ ap (λ r. fold further r b) h
+along_ok old mid a b h = fold-append further_event (Ok old) a b ∙ ap (λ r. fold further_event r b) h
 
 pub along_err : (old : Left) (f : SourceFault) (a b : List Event) → along old a ≡ Err f → along old (a ++ b) ≡ Err f
-along_err old f a b h = fold-append further (Ok old) a b ∙ ap (λ r. fold further r b) h ∙ stuck f b
+along_err old f a b h = fold-append further_event (Ok old) a b ∙ ap (λ r. fold further_event r b) h ∙ stuck f b
 
 pub goes_on : {X : Type 0} (old mid new : Left) (r : Result X SourceStop) (a b : List Event) → along old a ≡ Ok mid → Goes mid new r b
     → Goes old new r (a ++ b)

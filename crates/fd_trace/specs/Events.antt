@@ -30,12 +30,12 @@ after_event left (Prints at n) =
     else Ok (record { turns = left.turns; elements = left.elements - n })
 
 -- the first fault stays
-abbrev pub further : Result Left SourceFault → Event → Result Left SourceFault
-further (Ok left) e = after_event left e
-further (Err f) e = Err f
+abbrev pub further_event : Result Left SourceFault → Event → Result Left SourceFault
+further_event (Ok left) e = after_event left e
+further_event (Err f) e = Err f
 
 abbrev pub along : Left → List Event → Result Left SourceFault
-along left events = fold further (Ok left) events
+along left events = fold further_event (Ok left) events
 
 abbrev pub bad : List SourceFault → List Event
 bad faults = map Bad faults

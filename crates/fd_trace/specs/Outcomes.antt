@@ -29,11 +29,11 @@ abbrev pub opposed : Result ℤ SourceStop → Result ℤ SourceStop
 opposed (Ok a) = Ok (wrapped (neg_ℤ a))
 opposed (Err f) = Err f
 
-abbrev pub joined : Arith → SourcePlace → Result ℤ SourceStop → Result ℤ SourceStop → Result ℤ SourceStop
-joined op at (Ok a) (Ok b) = outcome (exactly op a b) (large at (exactly op a b))
-joined op at (Ok a) (Err f) = Err f
-joined op at (Err f) r = Err f
+abbrev pub joined_scalars : Arith → SourcePlace → Result ℤ SourceStop → Result ℤ SourceStop → Result ℤ SourceStop
+joined_scalars op at (Ok a) (Ok b) = outcome (exactly op a b) (large at (exactly op a b))
+joined_scalars op at (Ok a) (Err f) = Err f
+joined_scalars op at (Err f) r = Err f
 
 abbrev pub term_joined : List ℤ → Result ℤ SourceStop → CheckedTerm → Result ℤ SourceStop
 term_joined variables total t =
-    joined (sign_of t.minus) t.at total (outcome (scalar_value variables t.scalar) (scalar_faults variables t.scalar))
+    joined_scalars (sign_of t.minus) t.at total (outcome (scalar_value variables t.scalar) (scalar_faults variables t.scalar))

@@ -3,7 +3,7 @@ ghost use Rattle.fd_program.specs.Scalars.{scalar_value, offset_value};
 ghost use Rattle.fd_program.specs.Stores.{number_at};
 ghost use Rattle.fd_program.specs.Terms.{IsTerm};
 ghost use Rattle.fd_trace.specs.Sizes.{is_large, large, IsSmall, scalar_faults, offset_faults};
-ghost use Rattle.fd_trace.specs.Outcomes.{outcome, opposed, joined, term_joined};
+ghost use Rattle.fd_trace.specs.Outcomes.{outcome, opposed, joined_scalars, term_joined};
 
 use fd_program::{CheckedScalar, CheckedTerm};
 use fd_words::{Arith, Numbers, SourceCause, SourceFault, SourcePlace, SourceStop, negated};
@@ -49,7 +49,7 @@ fn join(
     left: Result<i64, SourceStop>,
     right: Result<i64, SourceStop>,
 ) -> Result<i64, SourceStop>
-    ensures { result ≡ joined op at left right }
+    ensures { result ≡ joined_scalars op at left right }
 {
     match left {
         Ok(left) => match right {

@@ -1,9 +1,6 @@
 ghost use Rattle.std.specs.Prelude.{◌≡◌, ◌≤◌, ◌^◌, ◌++◌, ◌∷◌, [], OnOk, IfErr, IfOk, All, ◌≤ℤ◌, ◌+ℤ◌, ◌-ℤ◌, pos};
 ghost use Rattle.chaos_dist.specs.Homes.{natural};
-ghost use Rattle.fd_program.specs.Loops.{count_between};
-ghost use Rattle.fd_program.specs.Scalars.{scalar_value};
-ghost use Rattle.fd_program.specs.Terms.{HasTerms};
-ghost use Rattle.fd_program.specs.Trace.{turn_between, turn_of};
+ghost use Rattle.fd_program.specs.{Loops.count_between, Scalars.scalar_value, Terms.HasTerms, Trace.turn_between, Trace.turn_of};
 ghost use Rattle.fd_trace.specs.Events.{bad, Goes};
 ghost use Rattle.fd_trace.specs.Sizes.{IsSmall, scalar_faults, adds_faults};
 ghost use Rattle.fd_trace.specs.Way.{adds_by, loop_way, work_way};

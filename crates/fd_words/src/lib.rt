@@ -5,6 +5,7 @@
 mod arith;
 mod bytes;
 mod combine;
+mod list;
 mod name;
 mod number_lists;
 mod numbers;
@@ -16,6 +17,7 @@ mod wanting;
 pub use arith::{Arith, exact_sum};
 pub use bytes::Bytes;
 pub use combine::{Combine, combining_laws};
+pub use list::{Copied, List};
 pub use name::Name;
 pub use number_lists::NumberLists;
 pub use numbers::Numbers;

@@ -1,35 +1,20 @@
-ghost use Rattle.std.specs.Prelude.{◌≡◌, [], ◌∷◌, ◌++◌, ◌==◌, length, pos, replicate, slice_get, slice_set, unwrap_or, OnOk, OnErr, IfOk};
-ghost use Rattle.std.specs.Option.{option_copied};
+ghost use Rattle.std.specs.Prelude.{◌≡◌, [], ◌++◌, length, pos, replicate, slice_get, slice_set, unwrap_or, OnOk, OnErr, IfOk};
 ghost use Rattle.fd_words.specs.Lists.{list_at, pushed_at};
 
-use crate::{Memory, Numbers};
+use crate::list::Copied;
+use crate::{List, Memory, Numbers};
 use std::alloc::Global;
-use std::marker::Model;
 
 /// Lists of numbers, as one per node or one per array; seen as a list of lists.
-#[derive(Debug, Drop)]
-pub struct NumberLists {
-    lists: Vec<Numbers>,
-}
+pub type NumberLists = List<Numbers>;
 
-impl Model for NumberLists {
-    ghost use Rattle.std.specs.Prelude.{List, ℤ};
-
-    ghost Value = { List (List ℤ) };
-
-    ghost view = { λ n. n.lists.items };
-}
-
-impl NumberLists {
-    /// No list, which takes no memory.
-    pub fn new(alloc: Global) -> NumberLists
-        ensures { result ≡ [] }
-    {
-        NumberLists {
-            lists: Vec::new(alloc),
-        }
+impl Copied for Numbers {
+    fn copied(&self, alloc: Global) -> Result<Numbers, Memory> {
+        self.copy(alloc)
     }
+}
 
+impl List<Numbers> {
     /// So many empty lists.
     pub fn empty(alloc: Global, count: u32) -> Result<NumberLists, Memory>
         ensures { IfOk result (λ lists. lists ≡ replicate count []) }
@@ -41,53 +26,13 @@ impl NumberLists {
         Ok(lists)
     }
 
-    /// The lists of a `Vec`, which takes no memory.
-    pub fn from_vec(lists: Vec<Numbers>) -> NumberLists
-        ensures { result ≡ lists.items }
-    {
-        NumberLists { lists }
-    }
-
-    /// Gives the lists back as a `Vec`, which takes no memory.
-    pub fn into_vec(self) -> Vec<Numbers>
-        ensures { result.items ≡ self }
-    {
-        let NumberLists { lists } = self;
-        lists
-    }
-
-    /// Appends a list.
-    pub fn push(&mut self, list: Numbers) -> Result<(), Memory>
-        ensures ok { OnOk result (self.new ≡ self.old ++ list ∷ []) }
-        ensures err { OnErr result (self.new ≡ self.old) }
-    {
-        self.lists.push(list)?;
-        Ok(())
-    }
-
-    /// The list at a place from 0; none from the end on.
-    pub fn get(&self, at: u64) -> Option<&Numbers>
-        ensures { option_copied result ≡ slice_get self.now at }
-    {
-        self.lists.get(at as usize)
-    }
-
-    /// Puts another list at a place; nothing from the end on.
-    pub fn put(&mut self, at: u64, list: Numbers)
-        ensures { self.new ≡ slice_set self.old at list }
-    {
-        if at < self.len() {
-            self.lists[at as usize] = list;
-        }
-    }
-
     /// Appends a number to the list at a place; nothing from the end on.
     pub fn push_to(&mut self, at: u64, value: i64) -> Result<(), Memory>
         ensures ok { OnOk result (self.new ≡ pushed_at self.old at value) }
         ensures err { OnErr result (self.new ≡ self.old) }
     {
         if at < self.len() {
-            let list = &mut self.lists[at as usize];
+            let list = &mut self.items[at as usize];
             list.push(value)?;
         }
         Ok(())
@@ -99,7 +44,7 @@ impl NumberLists {
         ensures err { OnErr result (self.new ≡ self.old) }
     {
         if at < self.len() {
-            let list = &mut self.lists[at as usize];
+            let list = &mut self.items[at as usize];
             list.append(row)?;
         }
         Ok(())
@@ -130,38 +75,8 @@ impl NumberLists {
         ensures { self.new ≡ slice_set self.old list (slice_set (list_at self.old list) at value) }
     {
         if list < self.len() {
-            let inner = &mut self.lists[list as usize];
+            let inner = &mut self.items[list as usize];
             inner.set(at, value);
         }
-    }
-
-    pub fn len(&self) -> u64
-        ensures { result ≡ length self.now }
-    {
-        self.lists.len() as u64
-    }
-
-    pub fn is_empty(&self) -> bool
-        ensures { result ≡ (length self.now == 0) }
-    {
-        self.lists.is_empty()
-    }
-
-    pub fn as_slice(&self) -> &[Numbers]
-        ensures { result.now ≡ self.now }
-    {
-        self.lists.as_slice()
-    }
-
-    /// Equal lists.
-    pub fn copy(&self, alloc: Global) -> Result<NumberLists, Memory>
-        ensures { IfOk result (λ n. n ≡ self.now) }
-    {
-        let mut lists = NumberLists::new(alloc);
-        let all = self.lists.as_slice();
-        for list in all {
-            lists.push(list.copy(alloc)?)?;
-        }
-        Ok(lists)
     }
 }

@@ -1,13 +1,10 @@
 -- What a node asks, what others ask of it, and the schedule.
 use Rattle.fd_program.specs.AmongLaws.{both_true, number_is}
 use Rattle.std.proofs.Common.{negsuc, ◌≤ℤ◌, ◌≡◌, ℕ, zero, suc, ◌+◌, ◌<◌, ◌≤◌, ◌^◌, ℤ, pos, Bool, true, false, cond, not, ◌&&◌, ◌==◌, List}
-use Rattle.std.proofs.Common.{[], ◌∷◌, ◌++◌, map, filter, Option, Some, None, refl, ap, sym, subst, ◌∙◌, arith, inl, inr, true≢false}
-use Rattle.std.proofs.Common.{append-nil, add-zero}
-use Rattle.std.specs.Prelude.{if◌then◌else◌, unwrap_or, nat_lt}
+use Rattle.std.proofs.Common.{[], ◌∷◌, ◌++◌, map, filter, Option, Some, refl, ap, sym, subst, ◌∙◌, arith, inl, inr, true≢false}
+use Rattle.std.specs.Prelude.{if◌then◌else◌, unwrap_or}
 use Rattle.std.specs.List.{AllByRecursion, AllZip, flat_map, range_with_len}
-use Rattle.std.specs.Option.{option_to_list}
-use Rattle.std.specs.Ordering.{int_eq}
-use Rattle.std.proofs.lemmas.Bool.Decides.{eqb_tells, nat_tests}
+use Rattle.std.proofs.lemmas.Bool.Decides.{eqb_tells}
 use Rattle.std.proofs.lemmas.Int.{ints}
 use Rattle.fd_words.specs.Lists.{list_at}
 use Rattle.fd_words.specs.declared.place.Role.{Role}
@@ -22,8 +19,10 @@ use Rattle.inspect_enter.proofs.InOrder.{cell_in, in_order_cells}
 use Rattle.inspect_enter.proofs.AllMet.{executed_met}
 use Rattle.inspect_enter.specs.Preparing.{IsNeed, IsSettled, uses_beyond}
 use Rattle.inspect_uses.specs.Standing.{within, standing}
-use Rattle.chaos_sched.specs.Scheduled.{same_role, item_of, in_order, needed_items, needed_from, ask_row, ask_to, asks_for, asked_item}
-use Rattle.chaos_sched.specs.Scheduled.{asked_items, asked_by}
+use Rattle.chaos_sched.proofs.Agreement.{by_node, IsNamedItem, reads_told, targets_told}
+use Rattle.chaos_sched.specs.Agreement.{on_owner}
+use Rattle.chaos_sched.specs.Scheduled.{same_role, item_of, in_order, needed_items, needed_from, ask_row, ask_to, asks_for}
+use Rattle.chaos_sched.specs.Scheduled.{asked_by}
 use Rattle.chaos_sched.specs.Schedules.{schedule_of}
 use Rattle.chaos_sched.specs.declared.item.Item.{Item}
 use Rattle.chaos_sched.specs.declared.need.Need.{Need}
@@ -51,15 +50,6 @@ zip_range R F a (suc n) h = (h a (omega arith), zip_range R F (a + 1) n (λ q lt
 zip_map : {A B : Type 0} (R : A → B → Type 0) (g : A → B) (xs : List A) → AllByRecursion (λ x. R x (g x)) xs → AllZip R xs (map g xs)
 zip_map R g [] h = tt
 zip_map R g (x ∷ xs) h = (h.0, zip_map R g xs h.1)
-
-at_range : {B : Type 0} (F : ℕ → List B) (a k n : ℕ) → k < n → list_at (map F (range_with_len a n)) k ≡ F (a + k)
-at_range F a k zero h = absurd (omega arith)
-at_range F a zero (suc n) h = ap F (sym (add-zero a))
-at_range F a (suc k) (suc n) h = let less : k < n = omega arith in let more : a + 1 + k ≡ a + suc k = omega arith in
-    at_range F (a + 1) k n less ∙ ap F more
-
-by_node : {B : Type 0} (F : ℕ → List B) (q n : ℕ) → q < n → list_at (map F (range_with_len 0 n)) q ≡ F q
-by_node F q n h = let e : 0 + q ≡ q = omega arith in at_range F 0 q n h ∙ ap F e
 
 -- a filter after one that it implies, and after one that it excludes
 filter_implied : {A : Type 0} (p q : A → Bool) → ((x : A) → p x ≡ true → q x ≡ true) → (xs : List A) → filter p (filter q xs) ≡ filter p xs
@@ -110,30 +100,18 @@ module _ (f : LoopFacts) (owners : List (List ℕ)) (store : List (List ℤ)) wh
     pub no_index : (r : Role) → w r ≡ true → not (is_index r) ≡ true
 
   reads : IsTestOf Read is_read
-  reads = record { same = same; no_index = no_index }
-    where
-      same : (r : Role) → same_role r Read ≡ is_read r
-      same Index = refl
-      same Read = refl
-      same Target = refl
-
-      no_index : (r : Role) → is_read r ≡ true → not (is_index r) ≡ true
-      no_index Index e = e
-      no_index Read e = refl
-      no_index Target e = refl
+  reads = record {
+    same = λ role. elim role as (λ r. same_role r Read ≡ is_read r) [ Index ↦ refl | Read ↦ refl | Target ↦ refl ];
+    no_index = λ role. elim role as (λ r. is_read r ≡ true → not (is_index r) ≡ true)
+        [ Index ↦ λ e. e | Read ↦ λ _. refl | Target ↦ λ _. refl ];
+  }
 
   targets : IsTestOf Target is_target
-  targets = record { same = same; no_index = no_index }
-    where
-      same : (r : Role) → same_role r Target ≡ is_target r
-      same Index = refl
-      same Read = refl
-      same Target = refl
-
-      no_index : (r : Role) → is_target r ≡ true → not (is_index r) ≡ true
-      no_index Index e = e
-      no_index Read e = refl
-      no_index Target e = refl
+  targets = record {
+    same = λ role. elim role as (λ r. same_role r Target ≡ is_target r) [ Index ↦ refl | Read ↦ refl | Target ↦ refl ];
+    no_index = λ role. elim role as (λ r. is_target r ≡ true → not (is_index r) ≡ true)
+        [ Index ↦ λ e. e | Read ↦ λ _. refl | Target ↦ λ _. refl ];
+  }
 
   abbrev wanted : (Role → Bool) → ℕ → Use → Bool
   wanted w q u = w u.role && (owner_met f owners u == q)
@@ -264,26 +242,13 @@ module _ (f : LoopFacts) (owners : List (List ℕ)) (store : List (List ℤ)) wh
   abbrev IsNamedCell : Cell → Type 0
   IsNamedCell x = (x.array < 2 ^ 32) × (1 ≤ x.element)
 
-  is_in_range : (array element : ℕ) → array < 2 ^ 32 → 1 ≤ element → (nat_lt array (2 ^ 32) && nat_lt 0 element) ≡ true
-  is_in_range array element h k = grind (arith, nat_tests)
+  named_own : (cells : List Cell) → AllByRecursion IsNamedCell cells → AllByRecursion IsNamedItem (map own_item cells)
+  named_own [] h = tt
+  named_own (x ∷ cells) h = (h.0, named_own cells h.1)
 
-  own_rows : (number : ℕ) → int_eq (pos number) (pos number) ≡ true → (cells : List Cell) (rest : List ℤ) → AllByRecursion IsNamedCell cells
-      → asked_items number (flat_map (ask_row_of f owners (pos number)) cells ++ rest) ≡ map own_item cells ++ asked_items number rest
-  own_rows number same [] rest named = refl
-  own_rows number same (x ∷ cells) rest named =
-      let more = asked_items number (flat_map (ask_row_of f owners (pos number)) cells ++ rest) in
-      ap (λ b. option_to_list (cond b (asked_item (pos x.array) (pos x.element) (pos (local_for f.arrays owners x.array (pos x.element))))
-      None) ++ more) same
-      ∙ ap (λ b. option_to_list (cond b (Some (own_item x)) None) ++ more) (is_in_range x.array x.element named.0.0 named.0.1)
-      ∙ ap (λ l. own_item x ∷ l) (own_rows number same cells rest named.1)
-
-  other_rows : (number other : ℕ) → int_eq (pos other) (pos number) ≡ false → (cells : List Cell) (rest : List ℤ)
-      → asked_items number (flat_map (ask_row_of f owners (pos other)) cells ++ rest) ≡ asked_items number rest
-  other_rows number other differs [] rest = refl
-  other_rows number other differs (x ∷ cells) rest =
-      let more = asked_items number (flat_map (ask_row_of f owners (pos other)) cells ++ rest) in
-      ap (λ b. option_to_list (cond b (asked_item (pos x.array) (pos x.element) (pos (local_for f.arrays owners x.array (pos x.element))))
-      None) ++ more) differs ∙ other_rows number other differs cells rest
+  own_again : (cells : List Cell) → map on_owner (map own_item cells) ≡ map own_item cells
+  own_again [] = refl
+  own_again (x ∷ cells) = ap (λ l. own_item x ∷ l) (own_again cells)
 
   cells_back : (cells : List Cell) → map cell_in (map own_item cells) ≡ cells
   cells_back [] = refl
@@ -298,29 +263,24 @@ module _ (f : LoopFacts) (owners : List (List ℕ)) (store : List (List ℤ)) wh
       in_order_cells own_item (λ x. refl) (map own_item cells) (items_own cells) ∙ ap (λ l. map own_item (ascending l)) (cells_back cells)
       ∙ ap (map own_item) (sym up)
 
+  asked_rows : (reads targets : List Cell)
+      → flat_map (ask_row_of f owners (pos 0)) reads ++ flat_map (ask_row_of f owners (pos 1)) targets
+      ≡ flat_map (ask_row 0) (map own_item reads) ++ flat_map (ask_row 1) (map own_item targets)
+  asked_rows reads targets =
+      ap (λ l. l ++ flat_map (ask_row_of f owners (pos 1)) targets) (sym (rows_are 0 own_item (λ x. refl) reads))
+      ∙ ap (λ l. flat_map (ask_row 0) (map own_item reads) ++ l) (sym (rows_are 1 own_item (λ x. refl) targets))
+
   pub reads_asked : (reads targets : List Cell) → reads ≡ ascending reads → AllByRecursion IsNamedCell reads
       → asked_by 0 (flat_map (ask_row_of f owners (pos 0)) reads ++ flat_map (ask_row_of f owners (pos 1)) targets) ≡ map own_item reads
-  unfolding asked_by
   reads_asked reads targets up named =
-      ap in_order (
-      own_rows 0 refl reads (flat_map (ask_row_of f owners (pos 1)) targets) named
-      ∙ ap (λ l. map own_item reads ++ asked_items 0 l) (sym (append-nil (flat_map (ask_row_of f owners (pos 1)) targets)))
-      ∙ ap (λ l. map own_item reads ++ l) (other_rows 0 1 refl targets [])
-      ∙ append-nil (map own_item reads)
-      )
-      ∙ own_in_order reads up
+      ap (asked_by 0) (asked_rows reads targets) ∙ reads_told (map own_item reads) (map own_item targets) (named_own reads named)
+      ∙ ap in_order (own_again reads) ∙ own_in_order reads up
 
   pub targets_asked : (reads targets : List Cell) → targets ≡ ascending targets → AllByRecursion IsNamedCell targets
       → asked_by 1 (flat_map (ask_row_of f owners (pos 0)) reads ++ flat_map (ask_row_of f owners (pos 1)) targets) ≡ map own_item targets
-  unfolding asked_by
   targets_asked reads targets up named =
-      ap in_order (
-      other_rows 1 0 refl reads (flat_map (ask_row_of f owners (pos 1)) targets)
-      ∙ ap (asked_items 1) (sym (append-nil (flat_map (ask_row_of f owners (pos 1)) targets)))
-      ∙ own_rows 1 refl targets [] named
-      ∙ append-nil (map own_item targets)
-      )
-      ∙ own_in_order targets up
+      ap (asked_by 1) (asked_rows reads targets) ∙ targets_told (map own_item reads) (map own_item targets) (named_own targets named)
+      ∙ ap in_order (own_again targets) ∙ own_in_order targets up
 
   -- ---- in a loop that is settled
 

@@ -15,11 +15,11 @@ use Rattle.chaos_dist.specs.declared.step_form.StepForm.{StepForm}
 use Rattle.chaos_dist.specs.declared.step_form.StepForm.TheVariants.{Regular, Map}
 use Rattle.fd_program.specs.Met.{decomposition_met, stands_met, layout_for, is_map}
 use Rattle.inspect_enter.specs.Needs.{need_of, needs_of}
-use Rattle.inspect_enter.specs.Placed.{IsKept, IsTold, is_mapped, placed_at}
+use Rattle.inspect_enter.specs.Placed.{MayBeStamped, IsTold, is_mapped, placed_at}
 use Rattle.inspect_enter.specs.declared.placed.Placed.{Placed}
 use Rattle.inspect_uses.specs.Accepted.{IsAccepted, AreOwners}
 use Rattle.inspect_uses.specs.PlaceLaws.{formula_tells}
-use Rattle.inspect_uses.specs.Reached.{place_by, place_reached, place_met}
+use Rattle.inspect_uses.specs.Reached.{place_by_form, place_reached, place_met}
 use Rattle.inspect_uses.specs.Standing.{standing, natural_bounds}
 use Rattle.chaos_sched.specs.declared.local_ref.LocalRef.{LocalRef}
 use Rattle.fd_program.specs.ListLaws.{Among}
@@ -38,7 +38,8 @@ count_most p (suc n) (x ∷ xs) = let one = sum_by-cons (λ y. cond (p y) 1 0) x
     by true most e = omega (arith, most, e)
     by false most e = omega (arith, most, e)
 
-pub small_local : (f : LoopFacts) (owners : List (List ℕ)) (u : Use) → IsAccepted f → IsKept f u → (place_met f owners u).local < 2 ^ 63
+pub small_local : (f : LoopFacts) (owners : List (List ℕ)) (u : Use) → IsAccepted f → MayBeStamped f u
+    → (place_met f owners u).local < 2 ^ 63
 small_local f owners u accepted kept =
     let s = standing f accepted u kept.met in
     let bounds = natural_bounds _ (layout_for f u.array).extent s.first s.last in
@@ -90,17 +91,18 @@ pub one_at_most : (b : Bool) (n k : ℕ) → n ≤ k → n + (if b then 1 else 0
 one_at_most true n k h = omega (arith, h)
 one_at_most false n k h = omega (arith, h)
 
-place_told : (form : StepForm) (extent nodes g : ℕ) → is_map form ≡ false → (place : Place) × (place_by form extent nodes g ≡ Some place)
+place_told : (form : StepForm) (extent nodes g : ℕ) → is_map form ≡ false → (place : Place)
+    × (place_by_form form extent nodes g ≡ Some place)
 place_told (Regular shape) extent nodes g e = (_, refl)
 place_told (Map array) extent nodes g e = absurd (true≢false e)
 
-no_formula : (form : StepForm) (extent nodes g : ℕ) → is_map form ≡ true → place_by form extent nodes g ≡ None
+no_formula : (form : StepForm) (extent nodes g : ℕ) → is_map form ≡ true → place_by_form form extent nodes g ≡ None
 no_formula (Regular shape) extent nodes g e = absurd (true≢false (sym e))
 no_formula (Map array) extent nodes g e = refl
 
 pub placed_is : (f : LoopFacts) (owners : List (List ℕ)) (uses : List Use) (k : ℕ) (d : Use) (places : List Place) (next : ℕ)
     (place : Place) → IsAccepted f → AreOwners f owners
-    → IsKept f (get_or uses k d) → k < length uses → places ≡ map (place_met f owners) (filter (is_mapped f) uses)
+    → MayBeStamped f (get_or uses k d) → k < length uses → places ≡ map (place_met f owners) (filter (is_mapped f) uses)
     → next ≡ length (filter (is_mapped f) (take k uses))
     → IsTold (place_reached f (get_or uses k d)) (slice_get places next) place → place ≡ place_met f owners (get_or uses k d)
 placed_is f owners uses k d places next place accepted owned kept less are is told = by (is_mapped f (get_or uses k d)) refl
@@ -132,7 +134,7 @@ among_get (x ∷ xs) (suc k) d h = inr (among_get xs k d (omega arith))
 
 pub placed_more : (f : LoopFacts) (owners : List (List ℕ)) (uses : List Use) (k : ℕ) (d : Use) (places : List Place) (next : ℕ)
     (placed more : List Placed) (place : Place) → IsAccepted f → AreOwners f owners
-    → IsKept f (get_or uses k d) → k < length uses → places ≡ map (place_met f owners) (filter (is_mapped f) uses)
+    → MayBeStamped f (get_or uses k d) → k < length uses → places ≡ map (place_met f owners) (filter (is_mapped f) uses)
     → next ≡ length (filter (is_mapped f) (take k uses))
     → (given : Option Place) → given ≡ slice_get places next → IsTold (place_reached f (get_or uses k d)) given place
     → placed ≡ map (placed_at f owners) (take k uses) → more ≡ placed ++ record { used = get_or uses k d; place = place } ∷ []

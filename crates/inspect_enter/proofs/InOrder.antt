@@ -1,15 +1,16 @@
 -- Items in order, where each is that of its element.
 use Rattle.fd_program.specs.AmongLaws.{from_map, among_map}
-use Rattle.std.proofs.Common.{◌≡◌, ℕ, ◌<◌, Bool, true, false, cond, ◌&&◌, ◌||◌, ◌==◌, List, [], ◌∷◌, map, refl, ap, sym, subst, ◌∙◌}
+use Rattle.std.proofs.Common.{◌≡◌, ℕ, ◌<◌, Bool, true, false, ◌&&◌, ◌||◌, ◌==◌, List, [], ◌∷◌, map, refl, ap, sym, subst, ◌∙◌}
 use Rattle.std.proofs.Common.{Ordering, Less, Equal, Greater, arith, inl, inr, true≢false}
 use Rattle.std.specs.Prelude.{nat_lt}
-use Rattle.std.specs.List.{AllByRecursion, dedup, dedup_from, list_any}
+use Rattle.std.specs.List.{AllByRecursion, dedup, list_any}
 use Rattle.std.specs.List.Sorted.{IsStrictlySortedBy}
 use Rattle.std.specs.Ordering.{nat_cmp, ordering_then, is_eq, eq_by_cmp}
 use Rattle.std.specs.Cmp.{nat_cmp_is, tied_itself}
 use Rattle.std.proofs.lemmas.Bool.{cases_lt}
 use Rattle.std.proofs.lemmas.Bool.Decides.{nat_tests}
 use Rattle.list_laws.proofs.Once.{ascending-unique}
+use Rattle.chaos_sched.proofs.Agreement.{none_dropped, sorted_further}
 use Rattle.chaos_sched.proofs.Small.{item_cmp_total, item_cmp-IsAntisymmetric}
 use Rattle.chaos_sched.specs.Agreement.{element_cmp}
 use Rattle.chaos_sched.specs.Scheduled.{item_cmp, same_element, in_order}
@@ -63,13 +64,6 @@ less_by a b c d e = elim (cases_lt a b) [
       ap (λ r. ordering_then r (nat_cmp c d)) (sym (nat_cmp_is a b Equal same)) ∙ sym (nat_cmp_is c d Less less)
 ]
 
-less_further : (r s t : Ordering) → ordering_then r s ≡ Less → ordering_then r (ordering_then s t) ≡ Less
-less_further Less s t e = refl
-less_further Equal Less t e = refl
-less_further Equal Equal t e = absurd (true≢false (ap is_eq e))
-less_further Equal Greater t e = e
-less_further Greater s t e = e
-
 module _ (g : Cell → Item) (its : (x : Cell) → cell_in (g x) ≡ x) where
   element_less : (x y : Cell) → is_before x y ≡ true → element_cmp (g x) (g y) ≡ Less
   element_less x y e =
@@ -86,49 +80,6 @@ module _ (g : Cell → Item) (its : (x : Cell) → cell_in (g x) ≡ x) where
   up_by_element [] h = tt
   up_by_element (x ∷ xs) h = (all_less x xs h.0, up_by_element xs h.1)
 
-  all_further : (x : Item) (ys : List Item) → AllByRecursion (λ i. element_cmp x i ≡ Less) ys → AllByRecursion (λ i. item_cmp x i ≡ Less) ys
-  all_further x [] h = tt
-  all_further x (y ∷ ys) h = (less_further (nat_cmp x.array y.array) (nat_cmp x.element y.element) _ h.0, all_further x ys h.1)
-
-  up_by_item : (xs : List Item) → IsStrictlySortedBy element_cmp xs → IsStrictlySortedBy item_cmp xs
-  unfolding IsStrictlySortedBy
-  up_by_item [] h = tt
-  up_by_item (x ∷ xs) h = (all_further x xs h.0, up_by_item xs h.1)
-
-  apart : (x y : Item) → element_cmp x y ≡ Less → same_element y x ≡ false
-  apart x y e = by (same_element y x) refl
-    where
-      first : (a b : Bool) → (a && b) ≡ true → a ≡ true
-      first true b h = refl
-      first false b h = h
-
-      second : (a b : Bool) → (a && b) ≡ true → b ≡ true
-      second true b h = h
-      second false b h = absurd (true≢false (sym h))
-
-      by : (b : Bool) → same_element y x ≡ b → b ≡ false
-      by false h = refl
-      by true h =
-          let one : x.array ≡ y.array = let t = first (y.array == x.array) _ h in grind (arith, nat_tests) in
-          let two : x.element ≡ y.element = let t = second (y.array == x.array) (y.element == x.element) h in grind (arith, nat_tests) in
-          let equal : element_cmp x y ≡ Equal =
-          ap (λ r. ordering_then r (nat_cmp x.element y.element)) (sym (nat_cmp_is x.array y.array Equal one))
-          ∙ sym (nat_cmp_is x.element y.element Equal two) in
-          absurd (true≢false (ap is_eq (sym equal ∙ e)))
-
-  none_dropped_from : (x : Item) (ys : List Item) → AllByRecursion (λ i. element_cmp x i ≡ Less) ys → IsStrictlySortedBy element_cmp ys
-      → dedup_from same_element x ys ≡ x ∷ ys
-  unfolding IsStrictlySortedBy
-  none_dropped_from x [] h up = refl
-  none_dropped_from x (y ∷ ys) h up =
-      ap (λ b. cond b (dedup_from same_element x ys) (x ∷ dedup_from same_element y ys)) (apart x y h.0)
-      ∙ ap (λ l. x ∷ l) (none_dropped_from y ys up.0 up.1)
-
-  none_dropped : (xs : List Item) → IsStrictlySortedBy element_cmp xs → dedup same_element xs ≡ xs
-  unfolding IsStrictlySortedBy
-  none_dropped [] up = refl
-  none_dropped (x ∷ xs) up = none_dropped_from x xs up.0 up.1
-
   -- items in order are those of their elements in order
   pub in_order_cells : (items : List Item) → AllByRecursion (λ i. g (cell_in i) ≡ i) items
       → in_order items ≡ map g (ascending (map cell_in items))
@@ -144,6 +95,6 @@ module _ (g : Cell → Item) (its : (x : Cell) → cell_in (g x) ≡ x) where
       subst (λ k. Among k (map g (ascending (map cell_in items)))) (all_among (λ i. g (cell_in i) ≡ i) items q is a)
       (among_map g (ascending (map cell_in items)) (cell_in q) (order.same.1 (cell_in q) (among_map cell_in items q a))) in
       ap (dedup same_element) (sym (ascending-unique item_cmp item_cmp_total item_cmp-IsAntisymmetric items
-      (map g (ascending (map cell_in items))) (up_by_item _ up)
+      (map g (ascending (map cell_in items))) (sorted_further _ up)
       (λ q. same_test _ _ (λ e. any_among q items (out q (among_any q _ e))) (λ e. any_among q _ (into q (among_any q items e))))))
       ∙ none_dropped _ up

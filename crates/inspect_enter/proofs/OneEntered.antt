@@ -18,7 +18,7 @@ use Rattle.fd_program.specs.Met.{decomposition_met, stands_met}
 use Rattle.plan_tables.specs.Tables.{table_at, entry_at, entered_in, HasStamp}
 use Rattle.inspect_uses.specs.Accepted.{IsAccepted}
 use Rattle.inspect_uses.specs.Standing.{standing}
-use Rattle.inspect_enter.specs.Placed.{IsKept, Reaches, IsGrown, HaveGrown, IsBy, Comes, AllCome, IsFound}
+use Rattle.inspect_enter.specs.Placed.{MayBeStamped, Reaches, IsGrown, HaveGrown, IsBy, Comes, AllCome, IsFound}
 use Rattle.inspect_enter.specs.declared.placed.Placed.{Placed}
 use Rattle.node_tables.proofs.Sets.{table_same, table_other}
 use Rattle.chaos_sched.specs.declared.local_ref.LocalRef.{LocalRef}
@@ -250,10 +250,15 @@ module _ (f : LoopFacts) (me : ℕ) where
   come_upto a b xs k first = subst (λ ys. AllCome f me a ys b) (take-append-drop k xs) (come_further a b b (take k xs) (drop k xs) first
       (come_none b (drop k xs)))
 
+  pub come_so_far : (a b c : List Stamps) (xs : List Placed) (k : ℕ) (d : Placed) → k < length xs → AllCome f me a (take k xs) b
+      → AllCome f me b (get_or xs k d ∷ []) c
+      → AllCome f me a xs c
+  come_so_far a b c xs k d lt first second = come_upto a c xs (k + 1) (come_more a b c xs k d lt first second)
+
 -- ---- one that the node enters
 
 module _ (f : LoopFacts) (accepted : IsAccepted f) (ts after : List Stamps) (x : Placed) (slot number element : ℕ)
-    (same : length ts ≡ length f.layouts) (kept : IsKept f x.used)
+    (same : length ts ≡ length f.layouts) (kept : MayBeStamped f x.used)
     (at : number ≡ decomposition_met f x.used) (there : element ≡ stands_met f x.used) where
   within : decomposition_met f x.used < length ts
   within = subst (λ n. decomposition_met f x.used < n) (sym same) (standing f accepted x.used kept.met).decomposition

@@ -10,7 +10,7 @@ use Rattle.std.proofs.lemmas.List.Elements.{filter-append, recursion_from_All}
 use Rattle.std.proofs.lemmas.List.Sums.{sum_by-cons}
 use Rattle.fd_program.specs.Met.{kept_uses, decomposition_met}
 use Rattle.plan_loop.specs.LoopLetters.{iteration_row}
-use Rattle.inspect_enter.specs.Placed.{is_kept, IsKept}
+use Rattle.inspect_enter.specs.Placed.{is_kept, MayBeStamped}
 use Rattle.inspect_enter.specs.Rows.{AreMet, first_iteration, first_uses}
 use Rattle.plan_tables.specs.Tables.{stamps_of}
 use Rattle.inspect_uses.specs.Accepted.{IsAccepted}
@@ -94,7 +94,7 @@ kept_filter {A} P Q p g (x ∷ xs) h = by (p x) refl (kept_filter P Q p g xs h.1
     by true e rest = (g x h.0 e, rest)
     by false e rest = rest
 
-is_kept_use : (f : LoopFacts) → IsAccepted f → (u : Use) → IsOf f.site.references u → is_kept f u ≡ true → IsKept f u
+is_kept_use : (f : LoopFacts) → IsAccepted f → (u : Use) → IsOf f.site.references u → is_kept f u ≡ true → MayBeStamped f u
 is_kept_use f accepted u o e =
     let two = both_true (is_index u.role) (is_met f.arrays u) e in
     let r = o.reference in
@@ -108,10 +108,10 @@ is_kept_use f accepted u o e =
           (ap is_index (sym o.role) ∙ two.0)));
     }
 
-pub first_kept : (f : LoopFacts) → IsAccepted f → (rows : List ℤ) → AllByRecursion (IsKept f) (first_uses f rows)
+pub first_kept : (f : LoopFacts) → IsAccepted f → (rows : List ℤ) → AllByRecursion (MayBeStamped f) (first_uses f rows)
 first_kept f accepted [] = tt
 first_kept f accepted (i ∷ values) =
-    kept_filter (IsOf f.site.references) (IsKept f) (is_kept f) (is_kept_use f accepted) (uses_with f i values)
+    kept_filter (IsOf f.site.references) (MayBeStamped f) (is_kept f) (is_kept_use f accepted) (uses_with f i values)
     (told_of f.arrays f.turn.adds i 0 None f.site.references values)
 
 take_whole : {A : Type 0} (xs : List A) → take (length xs) xs ≡ xs

@@ -19,10 +19,10 @@ use Rattle.plan_tables.specs.Fits.{StandsFor, slot_for}
 use Rattle.fd_program.specs.Met.{decomposition_met, stands_met}
 use Rattle.inspect_enter.proofs.Own.{all_less, all_rest, all_gone, all_still}
 use Rattle.inspect_enter.specs.Needs.{needs_of, need_in}
-use Rattle.inspect_enter.specs.Placed.{IsKept, placed_at, HaveGrown, IsBy, AllCome, IsFound}
+use Rattle.inspect_enter.specs.Placed.{MayBeStamped, placed_at, HaveGrown, IsBy, AllCome, IsFound}
 use Rattle.inspect_enter.specs.Preparing.{IsNeed}
-use Rattle.plan_tables.specs.SlotLaws.{same_number, other_number, not_number, slot_is, has_of, of_has}
-use Rattle.plan_tables.specs.Tables.{HasStamp, entry_at, stamps_of, slot_by, slots_of, cleared_all, HasPlaces, KeepsOtherStamps}
+use Rattle.plan_tables.specs.SlotLaws.{equal_numbers, unequal_numbers, not_number, slot_is, has_of, of_has}
+use Rattle.plan_tables.specs.Tables.{HasStamp, entry_at, stamps_of, slot_by, slots_entered, cleared_all, HasPlaces, KeepsOtherStamps}
 use Rattle.inspect_enter.specs.declared.placed.Placed.{Placed}
 use Rattle.inspect_uses.specs.Accepted.{IsAccepted}
 use Rattle.inspect_uses.specs.Reached.{place_met}
@@ -38,7 +38,7 @@ use Rattle.fd_program.specs.declared.loop_use.Use.{Use}
 -- ---- the tables
 
 module _ (f : LoopFacts) (me : ℕ) (accepted : IsAccepted f) (old mid new : List Stamps) (placed : List Placed)
-    (kept : AllByRecursion (λ (x : Placed). IsKept f x.used) placed)
+    (kept : AllByRecursion (λ (x : Placed). MayBeStamped f x.used) placed)
     (cleared : (d e : ℕ) → entry_at mid d e ≡ cleared_all f d f.site.references (entry_at old d e)) (grown : HaveGrown mid new)
     (come : AllCome f me mid placed new) where
   references : AllByRecursion (IsReference f.arrays) f.site.references
@@ -47,7 +47,8 @@ module _ (f : LoopFacts) (me : ℕ) (accepted : IsAccepted f) (old mid new : Lis
   own_of : (d e stamp : ℕ) → IsBy f me d e placed (λ x. x.used.stamp ≡ stamp) → Among stamp (stamps_of f d)
   own_of d e stamp b =
       subst (λ s. Among s (stamps_of f d)) b.has
-      (subst (λ n. Among b.by.used.stamp (stamps_of f n)) b.reaches.decomposition (all_among (λ (x : Placed). IsKept f x.used) placed b.by
+      (subst (λ n. Among b.by.used.stamp (stamps_of f n))
+      b.reaches.decomposition (all_among (λ (x : Placed). MayBeStamped f x.used) placed b.by
       kept b.among).own)
 
   pub keeps_others : KeepsOtherStamps f old new
@@ -109,10 +110,10 @@ module _ (f : LoopFacts) (me : ℕ) (accepted : IsAccepted f) (old mid new : Lis
                 let u = at_use by.by by.among in
                 let used : by.by.used ≡ u.0 = ap (λ (x : Placed). x.used) u.2 in
                 let owner : by.by.place.owner ≡ owner_met f owners u.0 = ap (λ (x : Placed). x.place.owner) u.2 in
-                let one : (decomposition_met f u.0 == d) ≡ true = same_number _ d (ap (decomposition_met f) (sym used)
+                let one : (decomposition_met f u.0 == d) ≡ true = equal_numbers _ d (ap (decomposition_met f) (sym used)
                 ∙ by.reaches.decomposition) in
-                let two : (u.0.stamp == stamp) ≡ true = same_number _ stamp (ap (λ (v : Use). v.stamp) (sym used) ∙ by.has) in
-                let three : not (owner_met f owners u.0 == me) ≡ true = other_number _ me (λ same. by.reaches.other (owner ∙ same)) in
+                let two : (u.0.stamp == stamp) ≡ true = equal_numbers _ stamp (ap (λ (v : Use). v.stamp) (sym used) ∙ by.has) in
+                let three : not (owner_met f owners u.0 == me) ≡ true = unequal_numbers _ me (λ same. by.reaches.other (owner ∙ same)) in
                 let test : ((decomposition_met f u.0 == d) && (u.0.stamp == stamp) && not (owner_met f owners u.0 == me)) ≡ true =
                 ap (λ b. b && (u.0.stamp == stamp) && not (owner_met f owners u.0 == me)) one
                 ∙ ap (λ b. true && b && not (owner_met f owners u.0 == me)) two ∙ ap (λ b. true && true && b) three in
@@ -147,41 +148,41 @@ module _ (f : LoopFacts) (me : ℕ) (accepted : IsAccepted f) (old mid new : Lis
 -- ---- local references and needs
 
 module _ (f : LoopFacts) (me : ℕ) (owners : List (List ℕ)) (new : List Stamps) where
-  slot_found : (u : Use) (slot : ℕ) → IsKept f u → IsFound f me new (placed_at f owners u) (Ghost slot)
-      → slot_for f (slots_of f new) u.array u.subscript ≡ Some slot
+  slot_found : (u : Use) (slot : ℕ) → MayBeStamped f u → IsFound f me new (placed_at f owners u) (Ghost slot)
+      → slot_for f (slots_entered f new) u.array u.subscript ≡ Some slot
   slot_found u slot kept (other, (h, at, same, has)) =
       slot_is (stamps_of f (decomposition_met f u)) (entry_at new (decomposition_met f u) (stands_met f u)) h u.stamp at kept.own has
       ∙ ap Some same
 
-  stands_for : (u : Use) (r : LocalRef) → IsKept f u → IsFound f me new (placed_at f owners u) r
-      → StandsFor f owners (slots_of f new) me u r
+  stands_for : (u : Use) (r : LocalRef) → MayBeStamped f u → IsFound f me new (placed_at f owners u) r
+      → StandsFor f owners (slots_entered f new) me u r
   stands_for u (Here local) kept h = h
   stands_for u (Ghost slot) kept h = (h.0, slot_found u slot kept h)
 
-  pub all_stand : (uses : List Use) (refs : List LocalRef) → AllByRecursion (IsKept f) uses
+  pub all_stand : (uses : List Use) (refs : List LocalRef) → AllByRecursion (MayBeStamped f) uses
       → AllZip (IsFound f me new) (map (placed_at f owners) uses) refs
-      → AllZip (StandsFor f owners (slots_of f new) me) uses refs
+      → AllZip (StandsFor f owners (slots_entered f new) me) uses refs
   all_stand [] [] kept h = tt
   all_stand [] (r ∷ refs) kept h = h
   all_stand (u ∷ uses) [] kept h = h
   all_stand (u ∷ uses) (r ∷ refs) kept h = (stands_for u r kept.0 h.0, all_stand uses refs kept.1 h.1)
 
-  pub all_need : (uses : List Use) (refs : List LocalRef) → AllByRecursion (IsKept f) uses
+  pub all_need : (uses : List Use) (refs : List LocalRef) → AllByRecursion (MayBeStamped f) uses
       → AllZip (IsFound f me new) (map (placed_at f owners) uses) refs
-      → AllZip (IsNeed f owners (slots_of f new)) (filter (λ u. not (owner_met f owners u == me)) uses)
+      → AllZip (IsNeed f owners (slots_entered f new)) (filter (λ u. not (owner_met f owners u == me)) uses)
       (needs_of (map (placed_at f owners) uses) refs)
   all_need [] [] kept h = tt
   all_need [] (r ∷ refs) kept h = absurd h
   all_need (u ∷ uses) [] kept h = absurd h
   all_need (u ∷ uses) (Here local ∷ refs) kept h =
-      subst (λ b. AllZip (IsNeed f owners (slots_of f new)) (cond b (u ∷ filter (λ v. not (owner_met f owners v == me)) uses)
+      subst (λ b. AllZip (IsNeed f owners (slots_entered f new)) (cond b (u ∷ filter (λ v. not (owner_met f owners v == me)) uses)
       (filter (λ v. not (owner_met f owners v == me)) uses)) (needs_of (map (placed_at f owners) uses) refs))
-      (sym (ap not (same_number (owner_met f owners u) me h.0.0))) (all_need uses refs kept.1 h.1)
+      (sym (ap not (equal_numbers (owner_met f owners u) me h.0.0))) (all_need uses refs kept.1 h.1)
   all_need (u ∷ uses) (Ghost slot ∷ refs) kept h =
-      subst (λ b. AllZip (IsNeed f owners (slots_of f new)) (cond b (u ∷ filter (λ v. not (owner_met f owners v == me)) uses)
+      subst (λ b. AllZip (IsNeed f owners (slots_entered f new)) (cond b (u ∷ filter (λ v. not (owner_met f owners v == me)) uses)
       (filter (λ v. not (owner_met f owners v == me)) uses)) (need_in (placed_at f owners u) slot
       ∷ needs_of (map (placed_at f owners) uses) refs))
-      (sym (other_number (owner_met f owners u) me h.0.0)) (
+      (sym (unequal_numbers (owner_met f owners u) me h.0.0)) (
         record { role = refl; array = refl; element = refl; place = refl; slot = slot_found u slot kept.0 h.0 },
         all_need uses refs kept.1 h.1,
       )
@@ -189,7 +190,7 @@ module _ (f : LoopFacts) (me : ℕ) (owners : List (List ℕ)) (new : List Stamp
 -- ---- needs are small
 
 small_each : (f : LoopFacts) → IsAccepted f → (placed : List Placed) (refs : List LocalRef)
-    → AllByRecursion (λ (x : Placed). IsKept f x.used) placed
+    → AllByRecursion (λ (x : Placed). MayBeStamped f x.used) placed
     → AllByRecursion (λ (x : Placed). x.place.local < 2 ^ 63) placed → AllByRecursion (λ (n : Need). (n.element < 2 ^ 63)
     × (n.place.local < 2 ^ 63)) (needs_of placed refs)
 small_each f accepted [] refs kept locals = tt
@@ -204,7 +205,7 @@ small_each f accepted (x ∷ placed) (Ghost slot ∷ refs) kept locals =
     below_limit (negsuc n) low high = absurd (omega (arith, ints, low))
 
 pub small_needs : (f : LoopFacts) → IsAccepted f → (placed : List Placed) (refs : List LocalRef)
-    → AllByRecursion (λ (x : Placed). IsKept f x.used) placed
+    → AllByRecursion (λ (x : Placed). MayBeStamped f x.used) placed
     → AllByRecursion (λ (x : Placed). x.place.local < 2 ^ 63) placed → All (λ (n : Need). n.element < 2 ^ 63) (needs_of placed refs)
     × All (λ (n : Need). n.place.local < 2 ^ 63) (needs_of placed refs)
 small_needs f accepted placed refs kept locals =

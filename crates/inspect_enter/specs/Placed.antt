@@ -23,7 +23,7 @@ abbrev pub is_kept : LoopFacts → Use → Bool
 is_kept f u = not (is_index u.role) && is_met f.arrays u
 
 -- and its stamp is one of the loop's
-pub record IsKept (f : LoopFacts) (u : Use) : Type 0 where
+pub record MayBeStamped (f : LoopFacts) (u : Use) : Type 0 where
   pub met : is_met f.arrays u ≡ true
   pub small : u.stamp < 128
   pub own : Among u.stamp (stamps_of f (decomposition_met f u))

@@ -8,7 +8,7 @@ use Rattle.fd_program.specs.Met.{kept_uses}
 use Rattle.plan_loop.specs.LoopLetters.{iteration_row}
 use Rattle.inspect_enter.specs.Placed.{is_mapped}
 use Rattle.fd_words.specs.declared.place.Place.{Place}
-use Rattle.plan_tables.specs.Tables.{slots_of, IsEntered}
+use Rattle.plan_tables.specs.Tables.{slots_entered, IsEntered}
 use Rattle.inspect_uses.specs.Accepted.{IsAccepted, AreOwners}
 use Rattle.inspect_uses.specs.Reached.{place_met}
 use Rattle.inspect_enter.specs.declared.entering.Entering.{Entering}
@@ -52,6 +52,6 @@ uses_beyond f owners store p = filter (λ u. not (owner_met f owners u == p)) (k
 pub record IsEntering (f : LoopFacts) (owners : List (List ℕ)) (store : List (List ℤ)) (p : ℕ) (tables : List Stamps)
     (x : Entering) : Type 0 where
   pub iterations : x.iterations ≡ executed_by f owners store p
-  pub references : AllZip (StandsFor f owners (slots_of f tables) p) (kept_uses f store (executed_by f owners store p)) x.references
-  pub needs : AllZip (IsNeed f owners (slots_of f tables)) (uses_beyond f owners store p) x.needs
+  pub references : AllZip (StandsFor f owners (slots_entered f tables) p) (kept_uses f store (executed_by f owners store p)) x.references
+  pub needs : AllZip (IsNeed f owners (slots_entered f tables)) (uses_beyond f owners store p) x.needs
   pub entered : IsEntered f owners store p tables

@@ -1,10 +1,9 @@
 //! Entering references of other nodes' elements into the stamped tables.
-ghost use Rattle.std.specs.Prelude.{◌≡◌, ◌≢◌, ℕ, [], ◌∷◌, ◌++◌, length, OnOk, IfOk};
+ghost use Rattle.std.specs.Prelude.{◌≡◌, ℕ, [], ◌∷◌, ◌++◌, length, OnOk, IfOk};
 ghost use Rattle.std.specs.List.{AllByRecursion, AllZip};
-ghost use Rattle.chaos_hash.specs.Stamps.{cleared, mask_of};
 ghost use Rattle.plan_tables.specs.Tables.{entry_at, cleared_by, cleared_all};
 ghost use Rattle.fd_program.specs.Checks.{IsReference};
-ghost use Rattle.inspect_enter.specs.Placed.{IsKept, IsFound, HaveGrown, AllCome};
+ghost use Rattle.inspect_enter.specs.Placed.{MayBeStamped, IsFound, HaveGrown, AllCome};
 ghost use Rattle.inspect_uses.specs.Accepted.{IsAccepted};
 
 use crate::placed::Placed;
@@ -45,28 +44,7 @@ pub(crate) fn clear_own(facts: &LoopFacts, tables: &mut TableSet)
     }
 }
 
-/// Gives the element of another node that a reference reaches the reference's stamp.
-fn enter_other(
-    facts: &LoopFacts,
-    me: u32,
-    placed: Placed,
-    tables: &mut TableSet,
-) -> Result<LocalRef, Memory>
-    requires accepted { IsAccepted facts.now }
-    requires tables { length tables.old ≡ length facts.now.layouts }
-    requires kept { IsKept facts.now placed.used }
-    requires other { placed.place.owner ≢ me }
-    ensures found { IfOk result (IsFound facts.now me tables.new placed) }
-    ensures grown { HaveGrown tables.old tables.new }
-    ensures come { AllCome facts.now me tables.old (placed ∷ []) tables.new }
-    ensures count { length tables.new ≡ length tables.old }
-{
-    let number = decomposition(facts.arrays.as_slice(), placed.used.array);
-    let element = stands_at(facts, placed.used);
-    let slot = tables.enter(number, element, placed.place, placed.used.stamp)?;
-    Ok(LocalRef::Ghost(slot))
-}
-
+/// A local address, or the slot of another node's element, which gets the reference's stamp.
 fn enter_one(
     facts: &LoopFacts,
     me: u32,
@@ -75,7 +53,7 @@ fn enter_one(
 ) -> Result<LocalRef, Memory>
     requires accepted { IsAccepted facts.now }
     requires tables { length tables.old ≡ length facts.now.layouts }
-    requires kept { IsKept facts.now placed.used }
+    requires kept { MayBeStamped facts.now placed.used }
     ensures found { IfOk result (IsFound facts.now me tables.new placed) }
     ensures grown { HaveGrown tables.old tables.new }
     ensures come { AllCome facts.now me tables.old (placed ∷ []) tables.new }
@@ -84,7 +62,10 @@ fn enter_one(
     if placed.place.owner == me {
         Ok(LocalRef::Here(placed.place.local))
     } else {
-        enter_other(facts, me, placed, tables)
+        let number = decomposition(facts.arrays.as_slice(), placed.used.array);
+        let element = stands_at(facts, placed.used);
+        let slot = tables.enter(number, element, placed.place, placed.used.stamp)?;
+        Ok(LocalRef::Ghost(slot))
     }
 }
 
@@ -106,7 +87,7 @@ pub(crate) fn enter_all(
 ) -> Result<LocalRefs, Memory>
     requires accepted { IsAccepted facts.now }
     requires tables { length tables.old ≡ length facts.now.layouts }
-    requires kept { AllByRecursion (λ x. IsKept facts.now x.used) placed.now }
+    requires kept { AllByRecursion (λ x. MayBeStamped facts.now x.used) placed.now }
     ensures found { IfOk result (λ references. AllZip (IsFound facts.now me tables.new) placed.now references) }
     ensures grown { HaveGrown tables.old tables.new }
     ensures come { AllCome facts.now me tables.old placed.now tables.new }

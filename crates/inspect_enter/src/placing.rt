@@ -4,7 +4,7 @@ ghost use Rattle.std.specs.List.{AllByRecursion, flat_map};
 ghost use Rattle.fd_program.specs.Uses.{is_met as is_met_of};
 ghost use Rattle.fd_program.specs.Met.{kept_uses};
 ghost use Rattle.plan_loop.specs.LoopLetters.{iteration_row};
-ghost use Rattle.inspect_enter.specs.Placed.{IsKept, IsTold, is_mapped as is_mapped_use, placed_at};
+ghost use Rattle.inspect_enter.specs.Placed.{MayBeStamped, IsTold, is_mapped as is_mapped_use, placed_at};
 ghost use Rattle.inspect_enter.specs.Rows.{AreMet};
 ghost use Rattle.inspect_uses.specs.Accepted.{IsAccepted, AreOwners};
 ghost use Rattle.inspect_uses.specs.Reached.{place_met, place_reached};
@@ -83,8 +83,8 @@ pub(crate) fn place_all(
     places: &[Place],
 ) -> Result<PlacedList, Memory>
     requires accepted { IsAccepted facts.now }
-    requires kept { AllByRecursion (IsKept facts.now) uses.now }
-    ensures kept { IfOk result (λ placed. AllByRecursion (λ x. IsKept facts.now x.used) placed) }
+    requires kept { AllByRecursion (MayBeStamped facts.now) uses.now }
+    ensures kept { IfOk result (λ placed. AllByRecursion (λ x. MayBeStamped facts.now x.used) placed) }
     ensures locals { IfOk result (λ placed. AllByRecursion (λ x. x.place.local < 2 ^ 63) placed) }
     ensures places { IfOk result (λ placed. (owners : List (List ℕ)) → AreOwners facts.now owners
         → places.now ≡ map (place_met facts.now owners) (filter (is_mapped_use facts.now) uses.now)

@@ -4,7 +4,7 @@ ghost use Rattle.plan_tables.specs.Fits.{Fits};
 ghost use Rattle.plan_loop.specs.LoopLetters.{sent_in, owed_in};
 ghost use Rattle.plan_loop.specs.declared.loop_phase.LoopPhase.TheVariants.{ScheduleAsk};
 ghost use Rattle.inspect_enter.specs.Preparing.{AreGiven, IsEntering, IsSettled};
-ghost use Rattle.plan_tables.specs.Tables.{KeepsOtherStamps, HasPlaces, slots_of};
+ghost use Rattle.plan_tables.specs.Tables.{KeepsOtherStamps, HasPlaces, slots_entered};
 ghost use Rattle.inspect_uses.specs.Accepted.{IsAccepted};
 
 use crate::Entering;
@@ -84,7 +84,8 @@ impl Entering {
     ) -> Result<Prepared, Memory>
         ensures { IfOk result (λ kept. (owners : List (List ℕ)) (store : List (List ℤ)) (p : ℕ) (tables : List Stamps)
             → IsSettled facts.now owners store → IsEntering facts.now owners store p tables self.now
-            → taken.now ≡ owed_in facts.now owners store ScheduleAsk p → Fits facts.now owners store (slots_of facts.now tables) p kept) }
+            → taken.now ≡ owed_in facts.now owners store ScheduleAsk p
+            → Fits facts.now owners store (slots_entered facts.now tables) p kept) }
     {
         let iterations = self.iterations.copy(alloc)?;
         let references = LocalRefs::from_slice(alloc, self.references.as_slice())?;

@@ -4,7 +4,7 @@ ghost use Rattle.std.specs.List.{AllByRecursion, flat_map};
 ghost use Rattle.fd_words.specs.Roles.{is_index as is_index_role};
 ghost use Rattle.fd_program.specs.Met.{kept_uses};
 ghost use Rattle.plan_loop.specs.LoopLetters.{iteration_row};
-ghost use Rattle.inspect_enter.specs.Placed.{is_kept, IsKept};
+ghost use Rattle.inspect_enter.specs.Placed.{is_kept, MayBeStamped};
 ghost use Rattle.inspect_enter.specs.Rows.{AreMet, first_iteration, first_uses};
 ghost use Rattle.inspect_uses.specs.Accepted.{IsAccepted};
 ghost use Rattle.inspect_uses.specs.Reached.{uses_with};
@@ -78,7 +78,7 @@ fn add_row(alloc: Global, facts: &LoopFacts, rows: &[i64], own: &mut OwnUses) ->
 /// The iterations of these rows, and their references.
 pub(crate) fn read_rows(alloc: Global, facts: &LoopFacts, rows: &[i64]) -> Result<OwnUses, Memory>
     requires { IsAccepted facts.now }
-    ensures kept { IfOk result (λ own. AllByRecursion (IsKept facts.now) own.uses) }
+    ensures kept { IfOk result (λ own. AllByRecursion (MayBeStamped facts.now) own.uses) }
     ensures iterations { IfOk result (λ own. (store : List (List ℤ)) (iterations : List ℤ) → AreMet facts.now store iterations
         → rows.now ≡ flat_map (iteration_row facts.now store) iterations → own.iterations ≡ iterations) }
     ensures uses { IfOk result (λ own. (store : List (List ℤ)) (iterations : List ℤ) → AreMet facts.now store iterations

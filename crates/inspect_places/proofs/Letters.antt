@@ -34,7 +34,7 @@ use Rattle.inspect_uses.specs.Accepted.{AreOwners, IsAccepted}
 use Rattle.inspect_uses.specs.Standing.{standing, natural_bounds}
 use Rattle.inspect_places.specs.Asks.{ArePages, IsPageFor, page_at}
 use Rattle.inspect_places.specs.Laws.{AnswersAreOwed, AsksAreSent, KeptAreWanted, WantedAreAsked}
-use Rattle.inspect_places.specs.Telling.{answer_row, place_by, told_by}
+use Rattle.inspect_places.specs.Telling.{answer_row, place_on_page, told_by}
 use Rattle.inspect_places.proofs.Deals.{pair_of}
 
 both : (a b : Bool) → (a && b) ≡ true → (a ≡ true) × (b ≡ true)
@@ -82,7 +82,7 @@ asked_mapped f owners store asking p me =
 
 page_told : (form : StepForm) (nodes me extent g : ℕ) (owners : List ℕ) (page : Option Pages) → is_map form ≡ true
     → IsPageFor form nodes me extent owners page → 1 ≤ g → g ≤ length owners
-    → page_of extent nodes g ≡ me → place_by page (pos g) ≡ place_in owners g
+    → page_of extent nodes g ≡ me → place_on_page page (pos g) ≡ place_in owners g
 page_told (Regular shape) nodes me extent g owners page e h low high here = cc
 page_told (Map array) nodes me extent g owners None e h low high here = absurd h
 page_told (Map array) nodes me extent g owners (Some page) e h low high here = ap (λ o. unwrap_or o nowhere) (h g low high here)

@@ -3,7 +3,7 @@ use Rattle.std.specs.Prelude.{ℕ, ◌+◌, ℤ, pos, negsuc, List, [], ◌∷�
 use Rattle.std.specs.Int.{w64, cast_signed}
 use Rattle.std.specs.List.{flat_map}
 use Rattle.fd_words.specs.declared.place.Place.{Place}
-use Rattle.chaos_deref.specs.Asking.{nowhere, numbers_of, owner_read, local_read, place_named}
+use Rattle.chaos_deref.specs.Asking.{nowhere, numbers_of, owner_read, local_read, place_looked_up}
 use Rattle.chaos_dist.specs.Homes.{natural}
 use Rattle.chaos_table.specs.Pages.{pairs_in}
 use Rattle.chaos_table.specs.declared.pages.Pages.{Pages}
@@ -49,16 +49,16 @@ place_told pair = record { owner = owner_read (Some pair.0); local = local_read 
 -- ---- answers
 
 -- the place that a page tells of an element, owner 0 and local address 0 where it tells none
-abbrev pub place_by : Option Pages → ℤ → Place
-place_by None g = nowhere
-place_by (Some page) g = place_named page g
+abbrev pub place_on_page : Option Pages → ℤ → Place
+place_on_page None g = nowhere
+place_on_page (Some page) g = place_looked_up page g
 
-abbrev pub place_on : List (Option Pages) → ℤ × ℤ → Place
-place_on pages (pos d, g) = place_by (page_at pages d) g
-place_on pages (negsuc d, g) = nowhere
+abbrev pub place_asked : List (Option Pages) → ℤ × ℤ → Place
+place_asked pages (pos d, g) = place_on_page (page_at pages d) g
+place_asked pages (negsuc d, g) = nowhere
 
 abbrev pub answer_row : List (Option Pages) → ℤ × ℤ → List ℤ
-answer_row pages pair = numbers_of (place_on pages pair)
+answer_row pages pair = numbers_of (place_asked pages pair)
 
 abbrev pub told_by : List (Option Pages) → List ℤ → List ℤ
 told_by pages asked = flat_map (answer_row pages) (pairs_in asked)

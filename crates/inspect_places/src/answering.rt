@@ -1,13 +1,13 @@
 ghost use Rattle.std.specs.Prelude.{◌≡◌, ◌++◌, ◌+◌, ◌<◌, ℕ, ℤ, List, length, map, pos, IfOk, OnOk};
 ghost use Rattle.std.specs.List.{slice_index_or};
-ghost use Rattle.chaos_deref.specs.Asking.{place_named, numbers_of};
 ghost use Rattle.plan_loop.specs.LoopLetters.{owed_in, sent_in};
 ghost use Rattle.plan_loop.specs.declared.loop_phase.Asking.{Asking};
 ghost use Rattle.plan_loop.specs.declared.loop_phase.LoopPhase.TheVariants as phase;
 ghost use Rattle.inspect_uses.specs.Accepted.{IsAccepted, AreOwners};
 ghost use Rattle.inspect_places.specs.Asks.{ArePages};
-ghost use Rattle.inspect_places.specs.Telling.{answer_row, place_by, place_on, told_by};
+ghost use Rattle.inspect_places.specs.Telling.{answer_row, place_on_page, place_asked, told_by};
 
+use chaos_deref::{append_place, place_of};
 use chaos_table::Pages;
 use fd_program::LoopFacts;
 use fd_words::{Memory, NumberLists, Numbers, Place};
@@ -71,19 +71,12 @@ fn answer_at(
       slice_index_or asked.now (at + 1) (pos 0),
     )) }
 {
-    append(numbers, place(pages, asked[at], asked[at + 1]))
-}
-
-fn append(numbers: &mut Numbers, place: Place) -> Result<(), Memory>
-    ensures { OnOk result (numbers.new ≡ numbers.old ++ numbers_of place) }
-{
-    numbers.push(i64::from(place.owner))?;
-    numbers.push(place.local.cast_signed())
+    append_place(numbers, place(pages, asked[at], asked[at + 1]))
 }
 
 /// The place of an element of a decomposition.
 fn place(pages: &[Option<Pages>], decomposition: i64, element: i64) -> Place
-    ensures { result ≡ place_on pages.now (decomposition, element) }
+    ensures { result ≡ place_asked pages.now (decomposition, element) }
 {
     match u64::try_from(decomposition) {
         Ok(at) => place_at(pages, at, element),
@@ -92,7 +85,7 @@ fn place(pages: &[Option<Pages>], decomposition: i64, element: i64) -> Place
 }
 
 fn place_at(pages: &[Option<Pages>], at: u64, element: i64) -> Place
-    ensures { result ≡ place_on pages.now (pos at, element) }
+    ensures { result ≡ place_asked pages.now (pos at, element) }
 {
     match pages.get(at as usize) {
         Some(page) => place_in(page, element),
@@ -101,28 +94,10 @@ fn place_at(pages: &[Option<Pages>], at: u64, element: i64) -> Place
 }
 
 fn place_in(page: &Option<Pages>, element: i64) -> Place
-    ensures { result ≡ place_by page.now element }
+    ensures { result ≡ place_on_page page.now element }
 {
     match page {
-        Some(page) => named(page, element),
-        None => Place { owner: 0, local: 0 },
-    }
-}
-
-fn named(page: &Pages, element: i64) -> Place
-    ensures { result ≡ place_named page.now element }
-{
-    match u64::try_from(element) {
-        Ok(element) => look(page, element),
-        Err(_) => Place { owner: 0, local: 0 },
-    }
-}
-
-fn look(page: &Pages, element: u64) -> Place
-    ensures { result ≡ place_named page.now (pos element) }
-{
-    match page.look(element) {
-        Some(place) => place,
+        Some(page) => place_of(page, element),
         None => Place { owner: 0, local: 0 },
     }
 }

@@ -16,7 +16,7 @@ use Rattle.fd_program.specs.declared.loop_facts.LoopFacts.{LoopFacts}
 use Rattle.fd_program.specs.declared.loop_use.Use.{Use}
 use Rattle.fd_program.specs.Met.{decomposition_met, layout_for, local_met, stands_met}
 use Rattle.inspect_uses.specs.Accepted.{IsAccepted, AreOwners, IsDealtBy}
-use Rattle.inspect_uses.specs.Reached.{place_by, place_reached, place_met}
+use Rattle.inspect_uses.specs.Reached.{place_by_form, place_reached, place_met}
 use Rattle.inspect_uses.specs.Standing.{standing, natural_bounds}
 
 abbrev pub FormulaTells : Type 0
@@ -33,7 +33,7 @@ abbrev at : List ℕ → ℕ → Place
 at owners g = record { owner = owner_in owners g; local = local_in owners g }
 
 by_form : (form : StepForm) (extent nodes g : ℕ) (owners : List ℕ) (place : Place) → IsDealtBy form extent nodes owners
-    → place_by form extent nodes g ≡ Some place → place ≡ at owners g
+    → place_by_form form extent nodes g ≡ Some place → place ≡ at owners g
 by_form (Regular shape) extent nodes g owners place dealt told = sym (same_Some _ _ told) ∙ ap (λ o. at o g) (sym dealt)
 by_form (Map array) extent nodes g owners place dealt told = absurd (none-some place told)
 

@@ -15,14 +15,14 @@ abbrev pub uses_with : LoopFacts → ℤ → List ℤ → List Use
 uses_with f i values = uses_told f.arrays f.turn.adds i 0 None f.site.references values
 
 -- the place of an element by formula; a map array has none
-abbrev pub place_by : StepForm → ℕ → ℕ → ℕ → Option Place
-place_by (Regular shape) extent nodes g =
+abbrev pub place_by_form : StepForm → ℕ → ℕ → ℕ → Option Place
+place_by_form (Regular shape) extent nodes g =
     Some (record { owner = owner_in (regular_owners shape extent nodes) g; local = local_in (regular_owners shape extent nodes) g })
-place_by (Map array) extent nodes g = None
+place_by_form (Map array) extent nodes g = None
 
 -- the place of the element that a reference reaches
 abbrev pub place_reached : LoopFacts → Use → Option Place
-place_reached f u = place_by (layout_for f u.array).form (layout_for f u.array).extent f.nodes (stands_met f u)
+place_reached f u = place_by_form (layout_for f u.array).form (layout_for f u.array).extent f.nodes (stands_met f u)
 
 -- its place under the whole layout
 abbrev pub place_met : LoopFacts → List (List ℕ) → Use → Place

@@ -6,7 +6,7 @@ ghost use Rattle.chaos_dist.specs.Layout.{given_size};
 ghost use Rattle.fd_program.specs.Met.{layout_for, stands_met};
 ghost use Rattle.chaos_dist.specs.declared.step_form.StepForm.TheVariants.{Regular as regular};
 ghost use Rattle.inspect_uses.specs.Accepted.{IsAccepted};
-ghost use Rattle.inspect_uses.specs.Reached.{place_by, place_reached};
+ghost use Rattle.inspect_uses.specs.Reached.{place_by_form, place_reached};
 
 use chaos_dist::{Regular, Shape, StepForm};
 use fd_program::{ArrayFacts, Layout, LoopFacts, Use, decomposition};
@@ -19,7 +19,7 @@ fn place_in(extent: u64, nodes: u32, shape: Shape, element: u64) -> Place
     requires some { 1 ≤ nodes }
     requires few { nodes ≤ 16 }
     requires dealt { 1 ≤ given_size shape }
-    ensures { Some result ≡ place_by (regular shape) extent nodes element }
+    ensures { Some result ≡ place_by_form (regular shape) extent nodes element }
 {
     let regular = Regular {
         extent,

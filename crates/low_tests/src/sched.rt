@@ -55,6 +55,10 @@ fn has(lists: &ItemLists, node: usize, item: Item) -> bool {
         .is_some_and(|list| list.as_slice() == [item].as_slice())
 }
 
+fn has_none(lists: &ItemLists, node: usize) -> bool {
+    lists.get(node).is_some_and(|list| list.is_empty())
+}
+
 // node 1 reads X(2) of node 0 and gives it Y(1), node 0 gives Y(3) to node 1; the rows that begin with
 // 2, name element 0, a negative array or no local address are passed over
 #[test]
@@ -90,19 +94,9 @@ fn schedule_of_needs_and_asks(rt: HostRuntime) -> Result<(), Fail> {
         slot: 7,
     };
     assert!(rt; has(&schedule.gather_send, 1, read));
-    assert!(rt;
-        schedule
-            .gather_fetch
-            .get(1)
-            .is_some_and(|list| list.is_empty())
-    );
+    assert!(rt; has_none(&schedule.gather_fetch, 1));
     assert!(rt; has(&schedule.scatter_send, 1, given));
     assert!(rt; has(&schedule.scatter_take, 1, taken));
-    assert!(rt;
-        schedule
-            .gather_send
-            .get(0)
-            .is_some_and(|list| list.is_empty())
-    );
+    assert!(rt; has_none(&schedule.gather_send, 0));
     Ok(())
 }

@@ -1,13 +1,11 @@
-ghost use Rattle.std.specs.Prelude.{◌≡◌, ◌<◌, ◌≤◌, length, map, IfOk};
-ghost use Rattle.bsp_core.specs.Turns.{Begins};
+ghost use Rattle.std.specs.Prelude.{◌≡◌, ◌<◌, ◌≤◌, length};
 ghost use Rattle.bsp_mail.specs.Mails.{IsFresh};
 ghost use Rattle.bsp_mail.specs.Seats.{IsOpenOn};
-ghost use Rattle.bsp_example.specs.Rows.{voter_row, voter_holds};
 ghost use Rattle.bsp_threads.specs.declared.seat.Standing.TheVariants.{Going};
 ghost use Rattle.bsp_threads.specs.Seats.{IsReady};
 
-use bsp_core::{NodeList, Phased, Want};
-use bsp_example::Voter;
+use bsp_core::{Phased, Want};
+use bsp_example::{Voter, voter_list};
 use bsp_mail::{Mail, MailSeat, Queues};
 use bsp_threads::*;
 use chaos_letter::{Kind, Letter};
@@ -19,22 +17,6 @@ use std::sync::atomic::{AtomicU64, Ordering};
 use std::test::Fail;
 use std::thread::Threads;
 use std::{mem, thread};
-
-// Nodes that tell each other their flags.
-fn voter_list(alloc: Global, flags: &[bool]) -> Result<NodeList<Voter>, Memory>
-    requires some { 0 < length flags.now }
-    requires few { length flags.now ≤ 16 }
-    ensures { IfOk result (λ nodes. Begins (voter_row flags.now) (voter_holds flags.now) (length flags.now) (map (λ s. s) nodes)) }
-{
-    let count = flags.len() as u32;
-    let mut nodes = NodeList::new(alloc);
-    for p in 0..count {
-        let flag = flags[p as usize];
-        let node = Voter::start(alloc, p, count, flag)?;
-        nodes.push(node)?;
-    }
-    Ok(nodes)
-}
 
 // Whether all nodes are done and know this flag.
 fn all_know(nodes: &[Voter], flag: bool) -> bool {

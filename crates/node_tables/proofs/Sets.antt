@@ -1,7 +1,7 @@
 -- A set of tables in which one is changed.
 use Rattle.std.proofs.Common.{◌≡◌, ℕ, zero, suc, ◌+◌, ◌<◌, ◌≤◌, true, cond, List, [], ◌∷◌, length, Option, Some, None, refl, ap, sym, subst}
 use Rattle.std.proofs.Common.{◌∙◌, arith, Ordering, Less, Equal, Greater, inl, inr, nat_eq, Ok, Err, max, replicate}
-use Rattle.std.specs.Prelude.{◌≢◌, slice_get, slice_set, unwrap_or, if◌then◌else◌, ◌==◌, MatchOption, Result, IfOk, OnOk, OnErr}
+use Rattle.std.specs.Prelude.{◌≢◌, slice_set, if◌then◌else◌, ◌==◌, MatchOption, Result, IfOk, OnOk, OnErr}
 use Rattle.std.specs.List.{slice_index_or}
 use Rattle.fd_words.specs.declared.place.Place.{Place}
 use lib.Dec.{T}
@@ -10,7 +10,8 @@ use Rattle.std.specs.Cmp.{nat_cmp_total, unsigned_tied, ranks}
 use Rattle.std.specs.FinMap as fin
 use Rattle.std.specs.FinMap.Entries.{below_all, is_sorted}
 use Rattle.std.proofs.lemmas.Bool.Decides.{eqb_tells}
-use Rattle.std.proofs.lemmas.Option.{none-some}
+use Rattle.std.proofs.lemmas.List.{get_or-set_other, get_or-set_same}
+use Rattle.std.proofs.lemmas.Option.{none-some, unwrap_or-slice_get}
 use Rattle.chaos_hash.specs.Stamps.{Stamps, cleared, entered, IsFree}
 use Rattle.chaos_hash.specs.declared.held.Held.{Held}
 use Rattle.list_laws.proofs.Ascending.{first, second}
@@ -19,28 +20,12 @@ use Rattle.fd_program.specs.Checks.{IsExtent}
 
 -- ---- one of a list
 
-pub get_same : {A : Type 0} (xs : List A) (d : ℕ) (t : A) → d < length xs → slice_get (slice_set xs d t) d ≡ Some t
-get_same [] d t h = absurd (omega arith)
-get_same (x ∷ xs) zero t h = refl
-get_same (x ∷ xs) (suc d) t h = get_same xs d t (omega arith)
-
-pub get_other : {A : Type 0} (xs : List A) (d e : ℕ) (t : A) → e ≢ d → slice_get (slice_set xs d t) e ≡ slice_get xs e
-get_other [] d e t h = refl
-get_other (x ∷ xs) zero zero t h = absurd (h refl)
-get_other (x ∷ xs) zero (suc e) t h = refl
-get_other (x ∷ xs) (suc d) zero t h = refl
-get_other (x ∷ xs) (suc d) (suc e) t h = get_other xs d e t (λ q. h (ap suc q))
-
-pub length_set : {A : Type 0} (xs : List A) (d : ℕ) (t : A) → length (slice_set xs d t) ≡ length xs
-length_set [] d t = refl
-length_set (x ∷ xs) zero t = refl
-length_set (x ∷ xs) (suc d) t = ap suc (length_set xs d t)
-
 pub table_same : (ts : List Stamps) (d : ℕ) (t : Stamps) → d < length ts → table_at (slice_set ts d t) d ≡ t
-table_same ts d t h = ap (λ o. unwrap_or o no_table) (get_same ts d t h)
+table_same ts d t h = unwrap_or-slice_get (slice_set ts d t) d no_table ∙ get_or-set_same ts d t no_table h
 
 pub table_other : (ts : List Stamps) (d e : ℕ) (t : Stamps) → e ≢ d → table_at (slice_set ts d t) e ≡ table_at ts e
-table_other ts d e t h = ap (λ o. unwrap_or o no_table) (get_other ts d e t h)
+table_other ts d e t h =
+    unwrap_or-slice_get (slice_set ts d t) e no_table ∙ get_or-set_other ts d e t no_table h ∙ sym (unwrap_or-slice_get ts e no_table)
 
 -- ---- elements
 
@@ -121,7 +106,7 @@ same_stamps : (a b : Stamps) → a.held ≡ b.held → a.peak ≡ b.peak → a �
 same_stamps a b h p = ap (λ m. let t : Stamps = record { held = m; peak = a.peak } in t) h
     ∙ ap (λ n. let t : Stamps = record { held = b.held; peak = n } in t) p
 
-pub lent : (items : List Stamps) (d : ℕ) (t : Stamps) → d < length items → t ≡ slice_index_or items d t → t ≡ table_at items d
+lent : (items : List Stamps) (d : ℕ) (t : Stamps) → d < length items → t ≡ slice_index_or items d t → t ≡ table_at items d
 lent [] d t h e = absurd (omega arith)
 lent (x ∷ xs) zero t h e = e
 lent (x ∷ xs) (suc d) t h e = lent xs d t (omega arith) e
@@ -131,60 +116,70 @@ set_itself [] d = refl
 set_itself (x ∷ xs) zero = refl
 set_itself (x ∷ xs) (suc d) = ap (λ l. x ∷ l) (set_itself xs d)
 
-seen : (items ts : List Stamps) (d : ℕ) (old : Stamps) → items ≡ ts → old ≡ table_at items d → old ≡ table_at ts d
-seen items ts d old view is = is ∙ ap (λ l. table_at l d) view
+-- the table `old` of decomposition d is lent, where the tables are seen as `ts`
+module _ (items ts : List Stamps) (view : items ≡ ts) (d : ℕ) (old : Stamps) (within : d < length ts)
+    (at : old ≡ slice_index_or items d old) where
+  inside : d < length items
+  inside = subst (λ l. d < length l) (sym view) within
 
+  is : old ≡ table_at items d
+  is = lent items d old inside at
+
+  seen : old ≡ table_at ts d
+  seen = is ∙ ap (λ l. table_at l d) view
+
+  pub has_lent : AreTables items → HasElements old
+  has_lent h = subst HasElements (sym is) (table_has items d h)
+
+  pub cleared_in : (mask : ℕ) (new : Stamps) → ((q : ℕ) → fin.get new.held q ≡ cleared mask (fin.get old.held q))
+      → (c q : ℕ) → entry_at (slice_set items d new) c q ≡ (if c == d then cleared mask (entry_at ts c q) else entry_at ts c q)
+  cleared_in mask new h c q =
+      elim (eqb_tells c d) [
+        | inl same ↦
+            ap (λ k. entry_at (slice_set items d new) k q) same.1 ∙ ap (λ (t : Stamps). fin.get t.held q) (table_same items d new inside)
+            ∙ h q
+            ∙ ap (λ (t : Stamps). cleared mask (fin.get t.held q)) seen
+            ∙ ap (λ k. cleared mask (entry_at ts k q)) (sym same.1)
+            ∙ sym (ap (λ b. if b then cleared mask (entry_at ts c q) else entry_at ts c q) same.0)
+        | inr other ↦
+            ap (λ (t : Stamps). fin.get t.held q) (table_other items d c new other.1) ∙ ap (λ l. entry_at l c q) view
+            ∙ sym (ap (λ b. if b then cleared mask (entry_at ts c q) else entry_at ts c q) other.0)
+      ]
+
+  pub dropped_is : (new : Stamps) → new.held ≡ fin.empty → new.peak ≡ old.peak → slice_set items d new ≡ dropped_in ts d
+  dropped_is new none peak =
+      ap (λ l. slice_set l d new) view ∙ ap (slice_set ts d) (same_stamps new _ none (peak ∙ ap (λ (t : Stamps). t.peak) seen))
+
+-- and element e is entered into it
 module _ {E : Type 0} (items ts : List Stamps) (view : items ≡ ts) (d e : ℕ) (place : Place) (stamp : ℕ) (old new : Stamps)
-    (is : old ≡ table_at items d) where
-  pub has_either : (r : Result ℕ E) → HasElements old → IsExtent e
+    (within : d < length ts) (at : old ≡ slice_index_or items d old) where
+  pub has_either : (r : Result ℕ E) → AreTables items → IsExtent e
       → IfOk r (λ slot. new.held ≡ fin.insert old.held e (entered (fin.get old.held e) place stamp slot)) → OnErr r (new ≡ old)
       → HasElements new
-  has_either (Ok slot) has within h none = has_entered old new e _ has within h
-  has_either (Err x) has within none same = subst HasElements (sym same) has
+  has_either (Ok slot) all extent h none = has_entered old new e _ (has_lent items ts view d old within at all) extent h
+  has_either (Err x) all extent none same = subst HasElements (sym same) (has_lent items ts view d old within at all)
 
   pub entered_is : (r : Result ℕ E) → IfOk r (λ slot. new.held ≡ fin.insert old.held e (entered (fin.get old.held e) place stamp slot))
       → OnOk r (new.peak ≡ max old.peak (fin.len new.held)) → IfOk r (λ slot. slice_set items d new ≡ entered_in ts d e place stamp slot)
   entered_is (Err x) h p = tt
   entered_is (Ok slot) h p =
       let held : new.held ≡ fin.insert (table_at ts d).held e (entered (entry_at ts d e) place stamp slot) =
-      h ∙ ap (λ (t : Stamps). fin.insert t.held e (entered (fin.get t.held e) place stamp slot)) (seen items ts d old view is) in
+      h ∙ ap (λ (t : Stamps). fin.insert t.held e (entered (fin.get t.held e) place stamp slot))
+      (seen items ts view d old within at) in
       let peak : new.peak ≡ max (table_at ts d).peak
       (fin.len (fin.insert (table_at ts d).held e (entered (entry_at ts d e) place stamp slot))) =
-      p ∙ ap (λ (t : Stamps). max t.peak (fin.len new.held)) (seen items ts d old view is)
+      p ∙ ap (λ (t : Stamps). max t.peak (fin.len new.held)) (seen items ts view d old within at)
       ∙ ap (λ m. max (table_at ts d).peak (fin.len m)) held in
       ap (λ l. slice_set l d new) view ∙ ap (slice_set ts d) (same_stamps new _ held peak)
 
   pub slot_is : (r : Result ℕ E) → IfOk r (λ slot. MatchOption (fin.get old.held e) (IsFree old.held slot) (λ h. slot ≡ h.slot))
       → IfOk r (λ slot. MatchOption (entry_at ts d e) (IsFree (table_at ts d).held slot) (λ h. slot ≡ h.slot))
   slot_is r h = subst (λ (t : Stamps). IfOk r (λ slot. MatchOption (fin.get t.held e) (IsFree t.held slot) (λ k. slot ≡ k.slot)))
-      (seen items ts d old view is) h
+      (seen items ts view d old within at) h
 
   pub kept_err : (r : Result ℕ E) → OnErr r (new ≡ old) → OnErr r (slice_set items d new ≡ ts)
   kept_err (Ok slot) h = tt
-  kept_err (Err x) h = ap (slice_set items d) (h ∙ is) ∙ set_itself items d ∙ view
-
-pub cleared_in : (items ts : List Stamps) (view : items ≡ ts) (d mask : ℕ) (old new : Stamps) → old ≡ table_at items d → d < length items
-    → ((q : ℕ) → fin.get new.held q ≡ cleared mask (fin.get old.held q))
-    → (c q : ℕ) → entry_at (slice_set items d new) c q ≡ (if c == d then cleared mask (entry_at ts c q) else entry_at ts c q)
-cleared_in items ts view d mask old new is within h c q =
-    elim (eqb_tells c d) [
-      | inl same ↦
-          ap (λ k. entry_at (slice_set items d new) k q) same.1 ∙ ap (λ (t : Stamps). fin.get t.held q) (table_same items d new within)
-          ∙ h q
-          ∙ ap (λ (t : Stamps). cleared mask (fin.get t.held q)) (is ∙ ap (λ l. table_at l d) view)
-          ∙ ap (λ k. cleared mask (entry_at ts k q)) (sym same.1)
-          ∙ sym (ap (λ b. if b then cleared mask (entry_at ts c q) else entry_at ts c q) same.0)
-      | inr other ↦
-          ap (λ (t : Stamps). fin.get t.held q) (table_other items d c new other.1) ∙ ap (λ l. entry_at l c q) view
-          ∙ sym (ap (λ b. if b then cleared mask (entry_at ts c q) else entry_at ts c q) other.0)
-    ]
-
-pub dropped_is : (items ts : List Stamps) (view : items ≡ ts) (d : ℕ) (old new : Stamps) → old ≡ table_at items d → new.held ≡ fin.empty
-    → new.peak ≡ old.peak
-    → slice_set items d new ≡ dropped_in ts d
-dropped_is items ts view d old new is none peak =
-    ap (λ l. slice_set l d new) view
-    ∙ ap (slice_set ts d) (same_stamps new _ none (peak ∙ ap (λ (t : Stamps). t.peak) (is ∙ ap (λ l. table_at l d) view)))
+  kept_err (Err x) h = ap (slice_set items d) (h ∙ is items ts view d old within at) ∙ set_itself items d ∙ view
 
 pub has_none : (t : Stamps) → t.held ≡ fin.empty → HasElements t
 has_none t none e k found = absurd (none-some k (sym (fin.get-empty nat_cmp e) ∙ ap (λ m. fin.get m e) (sym none) ∙ found))

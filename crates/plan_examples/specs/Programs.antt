@@ -147,8 +147,8 @@ wrapping_data = (pos 0 ∷ []) ∷ (pos 9223372036854775807 ∷ pos 1 ∷ []) �
 
 -- ---- the old element takes part: REDUCE(MIN, Y(I), Z(I)) and REDUCE(MIN, Y(I+1), Z(I)) at 1
 
-abbrev pub lesser : Checked
-lesser = record {
+abbrev pub takes_lesser : Checked
+takes_lesser = record {
   arrays = array (codes "Y") 2 0 ∷ array (codes "Z") 1 1 ∷ [];
   layouts = layout (codes "Y") 2 ∷ layout (codes "Z") 1 ∷ [];
   reads = pos 0 ∷ pos 1 ∷ [];
@@ -202,16 +202,16 @@ mapped at_line statements = record {
 abbrev pub mapping : Checked
 mapping = mapped 8 (Distribute (line 7) 0 (Map 2) ∷ Forall 0 ∷ [])
 
-abbrev pub unmapped : Checked
-unmapped = mapped 7 (Forall 0 ∷ [])
+abbrev pub never_mapped : Checked
+never_mapped = mapped 7 (Forall 0 ∷ [])
 
 abbrev pub mapping_data : List (List ℤ)
 mapping_data = tens ∷ zeros ∷ (negsuc 0 ∷ pos 7 ∷ pos 0 ∷ pos 2 ∷ []) ∷ []
 
 -- ---- the same twice, each followed by DISTRIBUTE D(CYCLIC) and D(BLOCK), or by D(BLOCK) alone
 
-abbrev pub moved : List CheckedStatement → ℕ → Checked
-moved statements inside = record {
+abbrev pub moved_inside : List CheckedStatement → ℕ → Checked
+moved_inside statements inside = record {
   arrays = array (codes "X") 4 0 ∷ array (codes "Y") 4 0 ∷ [];
   layouts = layout (codes "D") 4 ∷ [];
   reads = pos 0 ∷ [];
@@ -221,10 +221,10 @@ moved statements inside = record {
 }
 
 abbrev pub moving : Checked
-moving = moved (Distribute (line 11) 0 (Regular Cyclic) ∷ Distribute (line 12) 0 (Regular Block) ∷ []) 3
+moving = moved_inside (Distribute (line 11) 0 (Regular Cyclic) ∷ Distribute (line 12) 0 (Regular Block) ∷ []) 3
 
 abbrev pub staying : Checked
-staying = moved (Distribute (line 11) 0 (Regular Block) ∷ []) 2
+staying = moved_inside (Distribute (line 11) 0 (Regular Block) ∷ []) 2
 
 abbrev pub moving_data : List (List ℤ)
 moving_data = tens ∷ zeros ∷ []

@@ -10,18 +10,18 @@ use Rattle.fd_program.specs.declared.array.LayoutName.{LayoutName}
 use Rattle.fd_program.specs.declared.array.OutputName.{OutputName}
 use Rattle.plan_examples.specs.Programs.{scattering, scattering_at, xyi_arrays, xyi_layouts}
 
-four : IsExtent 4
-four = record { some = omega arith; most = omega arith }
+extent_of_four : IsExtent 4
+extent_of_four = record { some = omega arith; most = omega arith }
 
 -- all three arrays have four elements and a decomposition of their own
 first_aligned : IsAligned xyi_layouts (record { name = codes "X"; extent = 4; decomposition = 0; offset = pos 0 })
-first_aligned = record { extent = four; decomposition = omega arith; first = omega (arith, ints); last = omega (arith, ints) }
+first_aligned = record { extent = extent_of_four; decomposition = omega arith; first = omega (arith, ints); last = omega (arith, ints) }
 
 second_aligned : IsAligned xyi_layouts (record { name = codes "Y"; extent = 4; decomposition = 1; offset = pos 0 })
-second_aligned = record { extent = four; decomposition = omega arith; first = omega (arith, ints); last = omega (arith, ints) }
+second_aligned = record { extent = extent_of_four; decomposition = omega arith; first = omega (arith, ints); last = omega (arith, ints) }
 
 third_aligned : IsAligned xyi_layouts (record { name = codes "IA"; extent = 4; decomposition = 2; offset = pos 0 })
-third_aligned = record { extent = four; decomposition = omega arith; first = omega (arith, ints); last = omega (arith, ints) }
+third_aligned = record { extent = extent_of_four; decomposition = omega arith; first = omega (arith, ints); last = omega (arith, ints) }
 
 no_pairs : {A : Type 0} (R : A → A → Type 0) (x : A) → AllPairs R (x ∷ [])
 no_pairs R x i j d less small = absurd (omega arith)
@@ -61,7 +61,7 @@ scattering_is_checked = record {
   few_arrays = omega arith;
   few_layouts = omega arith;
   few_sites = omega arith;
-  layouts = All-from_recursion (λ (l : LayoutName). IsExtent l.extent) xyi_layouts (four, (four, (four, tt)));
+  layouts = All-from_recursion (λ (l : LayoutName). IsExtent l.extent) xyi_layouts (extent_of_four, (extent_of_four, (extent_of_four, tt)));
   arrays = All-from_recursion (IsAligned xyi_layouts) xyi_arrays (first_aligned, (second_aligned, (third_aligned, tt)));
   reads = All-from_recursion (IsRead xyi_arrays) (pos 0 ∷ pos 2 ∷ [])
       (record { least = omega (arith, ints); within = omega arith }, (record { least = omega (arith, ints); within = omega arith }, tt));

@@ -4,7 +4,8 @@ ghost use Rattle.fd_program.specs.Reports.{report_of_program};
 ghost use Rattle.fd_program.specs.Texts.{text_of};
 ghost use Rattle.fd_program.specs.declared.loop_facts.HomeRule.TheVariants as rule;
 ghost use Rattle.plan_examples.specs.Programs.{scattering, scattering_data, outside_data, reusing, rewriting, shifting, shifting_on, idle};
-ghost use Rattle.plan_examples.specs.Programs.{ones_to_fours, repeating, repeating_data, mapping, unmapped, mapping_data, moving, staying};
+ghost use Rattle.plan_examples.specs.Programs.{ones_to_fours, repeating, repeating_data, mapping, never_mapped, mapping_data, moving};
+ghost use Rattle.plan_examples.specs.Programs.{staying};
 ghost use Rattle.plan_examples.specs.Programs.{moving_data, sweeping, sweeping_data};
 
 /// A sum through an index array, by either rule and on several numbers of nodes.
@@ -69,8 +70,8 @@ pub fn mapping_program()
     ensures mapped { text_of mapping mapping_data ≡ codes "Y = 20 30 40 0\n" }
     ensures mapped_report { report_of_program mapping 4 rule.Owner mapping_data
         ≡ codes "loop 8: executed 1, inspected 1, gathered 2, scattered 0\n" }
-    ensures unmapped { text_of unmapped mapping_data ≡ codes "Y = 20 30 40 0\n" }
-    ensures unmapped_report { report_of_program unmapped 4 rule.Owner mapping_data
+    ensures unmapped { text_of never_mapped mapping_data ≡ codes "Y = 20 30 40 0\n" }
+    ensures unmapped_report { report_of_program never_mapped 4 rule.Owner mapping_data
         ≡ codes "loop 7: executed 1, inspected 1, gathered 3, scattered 0\n" }
 {}
 

@@ -2,7 +2,7 @@
 ghost use Rattle.std.specs.Prelude.{◌≡◌, [], ◌∷◌, codes};
 ghost use Rattle.fd_program.specs.Texts.{text_of};
 ghost use Rattle.plan_examples.specs.Programs.{zeros, first, scattering, scattering_data, outside_data, printing, scattering_next};
-ghost use Rattle.plan_examples.specs.Programs.{scattering_behind, greatest_data, wrapping, wrapping_data, lesser, lesser_data};
+ghost use Rattle.plan_examples.specs.Programs.{scattering_behind, greatest_data, wrapping, wrapping_data, takes_lesser, lesser_data};
 
 /// An assignment, and a shift of what it left.
 pub fn first_program()
@@ -16,7 +16,7 @@ pub fn wrapping_sum()
 
 /// A minimum takes the old element into account.
 pub fn lesser_value()
-    ensures { text_of lesser lesser_data ≡ codes "Y = 5 5\n" }
+    ensures { text_of takes_lesser lesser_data ≡ codes "Y = 5 5\n" }
 {}
 
 /// A PRINT shows its array as it is then.

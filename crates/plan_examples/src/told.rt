@@ -4,7 +4,8 @@ ghost use Rattle.plan_letters.specs.Carried.{carried, executions, stands};
 ghost use Rattle.chaos_letter.specs.declared.kind.Kind.TheVariants as kind;
 ghost use Rattle.plan_run.specs.Phases.{due_list};
 ghost use Rattle.plan_examples.specs.LetterWords.{needed_places};
-ghost use Rattle.plan_examples.specs.Programs.{scattering, scattering_data, outside_data, reusing, rewriting, lesser, lesser_data, mapping};
+ghost use Rattle.plan_examples.specs.Programs.{scattering, scattering_data, outside_data, reusing, rewriting, takes_lesser, lesser_data};
+ghost use Rattle.plan_examples.specs.Programs.{mapping};
 ghost use Rattle.plan_examples.specs.Programs.{mapping_data};
 ghost use Rattle.fd_program.specs.declared.loop_facts.HomeRule.TheVariants as rule;
 
@@ -38,7 +39,7 @@ pub fn refused_tells()
 
 /// A contribution to the second element of Y goes to its owner.
 pub fn lesser_tells()
-    ensures { carried kind.Scatter 0 (due_list lesser 2 rule.Owner lesser_data 0 1) ≡ (pos 0, pos 2) ∷ [] }
+    ensures { carried kind.Scatter 0 (due_list takes_lesser 2 rule.Owner lesser_data 0 1) ≡ (pos 0, pos 2) ∷ [] }
 {}
 
 /// A DISTRIBUTE by a map asks for places and has no vote; the loop behind it inspects.

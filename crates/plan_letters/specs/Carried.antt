@@ -16,12 +16,13 @@ use Rattle.fd_program.specs.Layouts.{Scene, store_at, owners_at, loop_at}
 use Rattle.fd_program.specs.Past.{is_repeat, inspects_step}
 use Rattle.fd_program.specs.Trace.{is_empty_turn}
 use Rattle.fd_program.specs.declared.checked.Checked.{Checked}
+use Rattle.fd_program.specs.declared.trace.LoopTurn.{LoopTurn}
 use Rattle.fd_program.specs.declared.trace.Step.{Step}
 use Rattle.fd_program.specs.declared.trace.Step.TheVariants.{Distribute, Print, Forall}
 
 -- ---- letters
 
-abbrev pub is_kind : Kind → Kind → Bool
+abbrev pub is_kind : (sort other : Kind) → Bool
 is_kind MapPairs MapPairs = true
 is_kind PageCounts PageCounts = true
 is_kind DerefAsk DerefAsk = true
@@ -61,8 +62,8 @@ abbrev pub carried : Kind → ℕ → List Letter → List (ℤ × ℤ)
 carried kind k letters = flat_map (λ (l : Letter). places_in l.numbers) (filter (is_of kind k) letters)
 
 -- as such letters have elements
-abbrev pub places_of : List Cell → List (ℤ × ℤ)
-places_of cells = map (λ (x : Cell). (pos x.array, pos x.element)) cells
+abbrev pub places_of_cells : List Cell → List (ℤ × ℤ)
+places_of_cells cells = map (λ (x : Cell). (pos x.array, pos x.element)) cells
 
 -- ---- steps
 
@@ -96,18 +97,20 @@ moves_by_map c past (Forall site turn) = false
 abbrev pub asks_step : Checked → List Step → Step → Bool
 asks_step c past step = inspects_step c past step || moves_by_map c past step
 
+-- what a FORALL whose range isn't empty has, nothing for another step
+abbrev pub of_loop : (List Step → ℕ → LoopTurn → List Cell) → List Step → Step → List Cell
+of_loop cells past (Distribute decomposition form) = []
+of_loop cells past (Print array) = []
+of_loop cells past (Forall site turn) = if is_empty_turn turn then [] else cells past site turn
+
 -- what p needs of q for a step, and what it gives to q
 abbrev pub needed_by : Scene → List Step → Step → ℕ → ℕ → List Cell
-needed_by s past (Distribute decomposition form) p q = []
-needed_by s past (Print array) p q = []
-needed_by s past (Forall site turn) p q =
-    if is_empty_turn turn then [] else needed_of (loop_at s past site turn) (owners_at s past) (store_at s past) p q
+needed_by s past step p q =
+    of_loop (λ past site turn. needed_of (loop_at s past site turn) (owners_at s past) (store_at s past) p q) past step
 
 abbrev pub given_by : Scene → List Step → Step → ℕ → ℕ → List Cell
-given_by s past (Distribute decomposition form) p q = []
-given_by s past (Print array) p q = []
-given_by s past (Forall site turn) p q =
-    if is_empty_turn turn then [] else given_of (loop_at s past site turn) (owners_at s past) (store_at s past) p q
+given_by s past step p q =
+    of_loop (λ past site turn. given_of (loop_at s past site turn) (owners_at s past) (store_at s past) p q) past step
 
 -- for the step with this number; nothing where there is none
 abbrev pub needed_at : Scene → List Step → ℕ → ℕ → ℕ → List Cell

@@ -23,11 +23,13 @@ use Rattle.fd_program.specs.declared.trace.Step.{Step}
 use Rattle.fd_program.specs.declared.trace.Step.TheVariants.{Distribute, Print, Forall}
 use Rattle.fd_program.specs.Met.{is_map}
 use Rattle.plan_run.specs.Phases.{moving_stages, loop_stages, stages_of, kind_of, due_list}
+use Rattle.plan_run.specs.VoteLaws.{stages_to_vote}
 use Rattle.plan_run.specs.declared.stage.Stage.{Stage}
 use Rattle.plan_letters.specs.Carried.{is_kind, stands, executions, step_at, is_at, numbers_where, moves_by_map, asks_step}
-use Rattle.plan_letters.specs.PhaseReading.{Reading, of_step, of_steps, of_refused, stages_to_vote}
-use Rattle.plan_letters.specs.RunReading.{read_letter, IsQuiet, EndsIn, due_is_told}
+use Rattle.plan_letters.specs.PhaseReading.{Reading, of_step, of_steps, of_refused}
+use Rattle.plan_letters.specs.RunReading.{read_letter, EndsIn, due_is_told}
 use Rattle.plan_letters.specs.StepReading.{QuietMoves, QuietInspection, moves_tell_nothing, vote_tells, loop_tells, numbers_are_told}
+use Rattle.plan_letters.specs.StepReading.{named, not_printed}
 use Rattle.plan_letters.specs.StepReading.{still_at, at_itself, among_numbers, execution_of, executions_read, stands_named, step_is_at}
 
 -- ---- statements
@@ -45,13 +47,13 @@ VoteStandsWhere =
     → stands kind.Vote k (due_list c nodes rule store p q) ≡ is_at (inspects_step c) (executed_of (run_of c store)) k
 
 -- what inspections alone send, and what a DISTRIBUTE by a map sends too
-abbrev pub is_inspecting : Kind → Bool
-is_inspecting kind.IndexAsk = true
-is_inspecting kind.IndexValues = true
-is_inspecting kind.Vote = true
-is_inspecting kind.Iterations = true
-is_inspecting kind.ScheduleAsk = true
-is_inspecting _ = false
+abbrev pub is_inspection_kind : Kind → Bool
+is_inspection_kind kind.IndexAsk = true
+is_inspection_kind kind.IndexValues = true
+is_inspection_kind kind.Vote = true
+is_inspection_kind kind.Iterations = true
+is_inspection_kind kind.ScheduleAsk = true
+is_inspection_kind _ = false
 
 abbrev pub is_place : Kind → Bool
 is_place kind.DerefAsk = true
@@ -62,7 +64,7 @@ is_place _ = false
 abbrev pub InspectionLettersStand : Type 0
 InspectionLettersStand =
     (c : Checked) (nodes : ℕ) (rule : HomeRule) (store : List (List ℤ)) (p q k : ℕ) (sort : Kind) → IsChecked c → p ≢ q
-    → is_inspecting sort ≡ true
+    → is_inspection_kind sort ≡ true
     → stands sort k (due_list c nodes rule store p q) ≡ true → is_at (inspects_step c) (executed_of (run_of c store)) k ≡ true
 
 -- where places are asked for or told, that step is executed, and inspects or is a DISTRIBUTE by a map that isn't a repeat
@@ -74,7 +76,7 @@ PlaceLettersStand =
 
 -- so none of these stands where the step isn't executed, or neither inspects nor is such a DISTRIBUTE
 abbrev pub is_asking : Kind → Bool
-is_asking sort = is_inspecting sort || is_place sort
+is_asking sort = is_inspection_kind sort || is_place sort
 
 abbrev pub OthersAskNothing : Type 0
 OthersAskNothing =
@@ -91,14 +93,6 @@ LoopsAskNothing =
     → inspects_at c past site turn ≡ false → stands sort (length past) (due_list c nodes rule store p q) ≡ false
 
 -- ---- the executions that a stage names
-
--- what is read of a kind from a stage of step n
-abbrev named : Kind → ℕ → Stage → List ℕ
-named sort n stage = if is_kind sort (kind_of stage) then n ∷ [] else []
-
-pub not_printed : (sort : Kind) → is_kind sort kind.Print ≡ false → IsQuiet (execution_of sort)
-not_printed sort e letter printed = ap (λ k. if is_kind sort k then letter.execution ∷ [] else []) printed
-    ∙ ap (λ b. if b then letter.execution ∷ [] else []) e
 
 same_numbers : (c : Checked) (past : List Step) → inspecting_of c past ≡ numbers_where (inspects_step c) past
 same_numbers c [] = refl
@@ -259,75 +253,26 @@ stand_only test c nodes rule store p q k sort known apart printed only holds sta
 
 -- ---- the laws
 
--- stages that aren't of an inspection
-record IsApart (sort : Kind) : Type 0 where
-  remap : is_kind sort kind.Remap ≡ false
-  print : is_kind sort kind.Print ≡ false
-  gather : is_kind sort kind.Gather ≡ false
-  scatter : is_kind sort kind.Scatter ≡ false
+-- no other kind is one of these
+not_inspecting : (sort other : Kind) → is_inspection_kind sort ≡ true → is_inspection_kind other ≡ false → is_kind sort other ≡ false
+not_inspecting kind.IndexAsk kind.IndexAsk e f = cc
+not_inspecting kind.IndexAsk _ e f = refl
+not_inspecting kind.IndexValues kind.IndexValues e f = cc
+not_inspecting kind.IndexValues _ e f = refl
+not_inspecting kind.Vote kind.Vote e f = cc
+not_inspecting kind.Vote _ e f = refl
+not_inspecting kind.Iterations kind.Iterations e f = cc
+not_inspecting kind.Iterations _ e f = refl
+not_inspecting kind.ScheduleAsk kind.ScheduleAsk e f = cc
+not_inspecting kind.ScheduleAsk _ e f = refl
+not_inspecting _ _ e f = cc
 
-record IsNoMove (sort : Kind) : Type 0 where
-  pairs : is_kind sort kind.MapPairs ≡ false
-  counts : is_kind sort kind.PageCounts ≡ false
-  asks : is_kind sort kind.DerefAsk ≡ false
-  answers : is_kind sort kind.DerefAnswer ≡ false
-
-inspecting_apart : (sort : Kind) → is_inspecting sort ≡ true → IsApart sort × IsNoMove sort
-inspecting_apart kind.IndexAsk e = (
-  record { remap = refl; print = refl; gather = refl; scatter = refl },
-  record { pairs = refl; counts = refl; asks = refl; answers = refl },
-)
-inspecting_apart kind.IndexValues e = (
-  record { remap = refl; print = refl; gather = refl; scatter = refl },
-  record { pairs = refl; counts = refl; asks = refl; answers = refl },
-)
-inspecting_apart kind.Vote e = (
-  record { remap = refl; print = refl; gather = refl; scatter = refl },
-  record { pairs = refl; counts = refl; asks = refl; answers = refl },
-)
-inspecting_apart kind.Iterations e = (
-  record { remap = refl; print = refl; gather = refl; scatter = refl },
-  record { pairs = refl; counts = refl; asks = refl; answers = refl },
-)
-inspecting_apart kind.ScheduleAsk e = (
-  record { remap = refl; print = refl; gather = refl; scatter = refl },
-  record { pairs = refl; counts = refl; asks = refl; answers = refl },
-)
-inspecting_apart kind.MapPairs e = cc
-inspecting_apart kind.PageCounts e = cc
-inspecting_apart kind.DerefAsk e = cc
-inspecting_apart kind.DerefAnswer e = cc
-inspecting_apart kind.Gather e = cc
-inspecting_apart kind.Scatter e = cc
-inspecting_apart kind.Remap e = cc
-inspecting_apart kind.Print e = cc
-inspecting_apart kind.Claims e = cc
-inspecting_apart kind.ClashVote e = cc
-inspecting_apart kind.Spread e = cc
-inspecting_apart kind.Rank e = cc
-inspecting_apart kind.Sizes e = cc
-inspecting_apart kind.Append e = cc
-
-place_apart : (sort : Kind) → is_place sort ≡ true → IsApart sort
-place_apart kind.DerefAsk e = record { remap = refl; print = refl; gather = refl; scatter = refl }
-place_apart kind.DerefAnswer e = record { remap = refl; print = refl; gather = refl; scatter = refl }
-place_apart kind.IndexAsk e = cc
-place_apart kind.IndexValues e = cc
-place_apart kind.Vote e = cc
-place_apart kind.Iterations e = cc
-place_apart kind.ScheduleAsk e = cc
-place_apart kind.MapPairs e = cc
-place_apart kind.PageCounts e = cc
-place_apart kind.Gather e = cc
-place_apart kind.Scatter e = cc
-place_apart kind.Remap e = cc
-place_apart kind.Print e = cc
-place_apart kind.Claims e = cc
-place_apart kind.ClashVote e = cc
-place_apart kind.Spread e = cc
-place_apart kind.Rank e = cc
-place_apart kind.Sizes e = cc
-place_apart kind.Append e = cc
+not_place : (sort other : Kind) → is_place sort ≡ true → is_place other ≡ false → is_kind sort other ≡ false
+not_place kind.DerefAsk kind.DerefAsk e f = cc
+not_place kind.DerefAsk _ e f = refl
+not_place kind.DerefAnswer kind.DerefAnswer e f = cc
+not_place kind.DerefAnswer _ e f = refl
+not_place _ _ e f = cc
 
 unnamed : (n : ℕ) (b : Bool) → b ≡ false → (if b then n ∷ [] else []) ≡ []
 unnamed n b e = ap (λ b. if b then n ∷ [] else []) e
@@ -337,41 +282,44 @@ both_nothing xs ys e f = ap (λ l. l ++ ys) e ∙ f
 
 -- a loop that doesn't inspect
 quiet_loop : (c : Checked) (nodes : ℕ) (rule : HomeRule) (past : List Step) (site : ℕ) (turn : LoopTurn) (sort : Kind) (n : ℕ)
-    → IsApart sort → inspects_at c past site turn ≡ false
+    → is_kind sort kind.Gather ≡ false → is_kind sort kind.Scatter ≡ false → inspects_at c past site turn ≡ false
     → flat_map (named sort n) (stages_of c nodes rule past (Forall site turn)) ≡ []
-quiet_loop c nodes rule past site turn sort n far e =
+quiet_loop c nodes rule past site turn sort n gather scatter e =
     ap (λ i. flat_map (named sort n) (if is_empty_turn turn then [] else loop_stages (facts_at c nodes rule past site turn) i)) e
     ∙ by (is_empty_turn turn)
   where
     by : (b : Bool) → flat_map (named sort n) (if b then [] else loop_stages (facts_at c nodes rule past site turn) false) ≡ []
     by true = refl
-    by false = both_nothing _ _ (unnamed n _ far.gather) (both_nothing _ [] (unnamed n _ far.scatter) refl)
+    by false = both_nothing _ _ (unnamed n _ gather) (both_nothing _ [] (unnamed n _ scatter) refl)
 
-inspections_alone : (c : Checked) (nodes : ℕ) (rule : HomeRule) (sort : Kind) → IsApart sort × IsNoMove sort
+inspections_alone : (c : Checked) (nodes : ℕ) (rule : HomeRule) (sort : Kind) → is_inspection_kind sort ≡ true
     → OnlyWhere (inspects_step c) c nodes rule sort
-inspections_alone c nodes rule sort far past (Distribute d form) n e =
+inspections_alone c nodes rule sort its past (Distribute d form) n e =
     moves_tell_nothing ℕ (named sort n)
     (record {
-      pairs = λ array. unnamed n _ far.1.pairs;
-      counts = unnamed n _ far.1.counts;
-      asks = unnamed n _ far.1.asks;
-      answers = unnamed n _ far.1.answers;
-      remap = unnamed n _ far.0.remap;
+      pairs = λ array. unnamed n _ (not_inspecting sort kind.MapPairs its refl);
+      counts = unnamed n _ (not_inspecting sort kind.PageCounts its refl);
+      asks = unnamed n _ (not_inspecting sort kind.DerefAsk its refl);
+      answers = unnamed n _ (not_inspecting sort kind.DerefAnswer its refl);
+      remap = unnamed n _ (not_inspecting sort kind.Remap its refl);
     })
     (is_repeat c past d form) form
-inspections_alone c nodes rule sort far past (Print array) n e = both_nothing _ [] (unnamed n _ far.0.print) refl
-inspections_alone c nodes rule sort far past (Forall site turn) n e = quiet_loop c nodes rule past site turn sort n far.0 e
+inspections_alone c nodes rule sort its past (Print array) n e =
+    both_nothing _ [] (unnamed n _ (not_inspecting sort kind.Print its refl)) refl
+inspections_alone c nodes rule sort its past (Forall site turn) n e =
+    quiet_loop c nodes rule past site turn sort n (not_inspecting sort kind.Gather its refl) (not_inspecting sort kind.Scatter its refl) e
 
-places_alone : (c : Checked) (nodes : ℕ) (rule : HomeRule) (sort : Kind) → IsApart sort → OnlyWhere (asks_step c) c nodes rule sort
-places_alone c nodes rule sort far past (Distribute d form) n e = by (is_repeat c past d form) form e
+places_alone : (c : Checked) (nodes : ℕ) (rule : HomeRule) (sort : Kind) → is_place sort ≡ true → OnlyWhere (asks_step c) c nodes rule sort
+places_alone c nodes rule sort its past (Distribute d form) n e = by (is_repeat c past d form) form e
   where
     by : (b : Bool) (form : StepForm) → (false || (not b && is_map form)) ≡ false
         → flat_map (named sort n) (if b then [] else moving_stages form) ≡ []
     by true form e = refl
-    by false (Regular shape) e = both_nothing _ [] (unnamed n _ far.remap) refl
+    by false (Regular shape) e = both_nothing _ [] (unnamed n _ (not_place sort kind.Remap its refl)) refl
     by false (Map array) e = cc
-places_alone c nodes rule sort far past (Print array) n e = both_nothing _ [] (unnamed n _ far.print) refl
-places_alone c nodes rule sort far past (Forall site turn) n e = quiet_loop c nodes rule past site turn sort n far
+places_alone c nodes rule sort its past (Print array) n e = both_nothing _ [] (unnamed n _ (not_place sort kind.Print its refl)) refl
+places_alone c nodes rule sort its past (Forall site turn) n e =
+    quiet_loop c nodes rule past site turn sort n (not_place sort kind.Gather its refl) (not_place sort kind.Scatter its refl)
     (by (inspects_at c past site turn) e)
   where
     by : (b : Bool) → (b || false) ≡ false → b ≡ false
@@ -379,16 +327,14 @@ places_alone c nodes rule sort far past (Forall site turn) n e = quiet_loop c no
     by false e = refl
 
 pub inspection_letters_stand : InspectionLettersStand
-inspection_letters_stand c nodes rule store p q k sort known apart inspecting =
-    let far = inspecting_apart sort inspecting in
-    stand_only (inspects_step c) c nodes rule store p q k sort known apart far.0.print (inspections_alone c nodes rule sort far)
-    (λ past step e. e)
+inspection_letters_stand c nodes rule store p q k sort known apart its =
+    stand_only (inspects_step c) c nodes rule store p q k sort known apart (not_inspecting sort kind.Print its refl)
+    (inspections_alone c nodes rule sort its) (λ past step e. e)
 
 pub place_letters_stand : PlaceLettersStand
-place_letters_stand c nodes rule store p q k sort known apart place =
-    let far = place_apart sort place in
-    stand_only (asks_step c) c nodes rule store p q k sort known apart far.print (places_alone c nodes rule sort far)
-    (λ past step e. ap (λ b. b || moves_by_map c past step) e)
+place_letters_stand c nodes rule store p q k sort known apart its =
+    stand_only (asks_step c) c nodes rule store p q k sort known apart (not_place sort kind.Print its refl)
+    (places_alone c nodes rule sort its) (λ past step e. ap (λ b. b || moves_by_map c past step) e)
 
 either : (a b : Bool) → (a || b) ≡ true → (a ≡ true) ⊎ (b ≡ true)
 either true b e = inl refl
@@ -410,9 +356,9 @@ inspecting_asks c done k e = by (step_at done k) e
 pub others_ask_nothing : OthersAskNothing
 others_ask_nothing c nodes rule store p q k sort known apart asking =
     none_stands (stands sort k (due_list c nodes rule store p q)) (is_at (asks_step c) (executed_of (run_of c store)) k)
-    (λ e. by (either (is_inspecting sort) (is_place sort) asking) e)
+    (λ e. by (either (is_inspection_kind sort) (is_place sort) asking) e)
   where
-    by : (is_inspecting sort ≡ true) ⊎ (is_place sort ≡ true) → stands sort k (due_list c nodes rule store p q) ≡ true
+    by : (is_inspection_kind sort ≡ true) ⊎ (is_place sort ≡ true) → stands sort k (due_list c nodes rule store p q) ≡ true
         → is_at (asks_step c) (executed_of (run_of c store)) k ≡ true
     by (inl h) e = inspecting_asks c (executed_of (run_of c store)) k (inspection_letters_stand c nodes rule store p q k sort known apart
         h e)

@@ -26,6 +26,7 @@ use Rattle.plan_run.specs.declared.stage.Stage.{Stage}
 use Rattle.plan_run.specs.declared.stage.Stage.TheVariants as stage
 use Rattle.plan_letters.specs.PhaseReading.{Reading, at_phase, of_steps, of_refused, onto, read_from, read_cut, VotesInspect, votes_from}
 use Rattle.plan_letters.specs.PhaseReading.{votes_cut, votes_in_outputs}
+use Rattle.fd_program.specs.ListLaws.{all_split}
 
 -- ---- the executed steps of a run
 
@@ -79,8 +80,8 @@ reverse_is [] ys = refl
 reverse_is (x ∷ xs) ys =
     ap (λ l. l ++ ys) (reverse_onto xs x []) ∙ append_assoc (reverse xs) (x ∷ []) ys ∙ reverse_is xs (x ∷ ys)
 
-turned : (xs : List Step) → reverse xs ≡ onto xs []
-turned xs = sym (append-nil (reverse xs)) ∙ reverse_is xs []
+reversed_onto : (xs : List Step) → reverse xs ≡ onto xs []
+reversed_onto xs = sym (append-nil (reverse xs)) ∙ reverse_is xs []
 
 onto_last : (xs : List Step) (x : Step) (ys : List Step) → onto (xs ++ x ∷ []) ys ≡ x ∷ onto xs ys
 onto_last [] x ys = refl
@@ -96,7 +97,7 @@ EndsIn X c nodes rule h executed done last =
 
 -- what is read from these phases: first that of the completed steps, then `last`, that of the refused step if there is one, then that of
 -- OUTPUT arrays
-pub record IsRead (X : Type 0) (c : Checked) (nodes : ℕ) (rule : HomeRule) (h : Reading X) (executed : List Step) (phases : List Phase)
+pub record IsReadIn (X : Type 0) (c : Checked) (nodes : ℕ) (rule : HomeRule) (h : Reading X) (executed : List Step) (phases : List Phase)
     (done : List Step) : Type 0 where
   pub last : List X
   pub steps : ℕ
@@ -110,24 +111,21 @@ votes_in_run : (c : Checked) (phases : List Phase) (past : List Step) (b : Bool)
 votes_in_run c phases past false h = h
 votes_in_run c phases past true h = votes_cut c (length past) _ phases (votes_in_outputs c (length (trace_of c)) past 0 c.outputs) h
 
-all_split : {A : Type 0} (P : A → Type 0) (ys zs : List A) → AllByRecursion P (ys ++ zs) → AllByRecursion P ys × AllByRecursion P zs
-all_split P [] zs h = (tt, h)
-all_split P (y ∷ ys) zs h = let rest = all_split P ys zs h.1 in ((h.0, rest.0), rest.1)
-
 same_first : (x y : Step) (xs ys : List Step) → x ∷ xs ≡ y ∷ ys → x ≡ y
 same_first x y xs ys e = cc
 
 pub run_is_read : (X : Type 0) (c : Checked) (nodes : ℕ) (rule : HomeRule) (store : List (List ℤ)) (h : Reading X) → IsChecked c
-    → IsRead X c nodes rule h (executed_of (run_of c store)) (phases_of c nodes rule (run_of c store)) (completed_of (run_of c store))
+    → IsReadIn X c nodes rule h (executed_of (run_of c store)) (phases_of c nodes rule (run_of c store)) (completed_of (run_of c store))
 run_is_read X c nodes rule store h known = by (run_of c store).refused refl
   where
     by : (o : Option Refused) → (run_of c store).refused ≡ o
-        → IsRead X c nodes rule h (executed_of (run_of c store)) (phases_of c nodes rule (run_of c store)) (completed_of (run_of c store))
+        → IsReadIn X c nodes rule h (executed_of (run_of c store)) (phases_of c nodes rule (run_of c store)) (completed_of (run_of c store))
     by None e =
-        let same : executed_of (run_of c store) ≡ onto (trace_of c) [] = ap reverse (whole c (trace_of c) store e) ∙ turned (trace_of c) in
+        let same : executed_of (run_of c store) ≡ onto (trace_of c) [] = ap reverse (whole c (trace_of c) store e)
+        ∙ reversed_onto (trace_of c) in
         let done : completed_of (run_of c store) ≡ executed_of (run_of c store)
         = ap (λ (o : Option Refused). drop (if is_some o then 1 else 0) (executed_of (run_of c store))) e in
-        subst (IsRead X c nodes rule h (executed_of (run_of c store)) (phases_of c nodes rule (run_of c store))) (sym (done ∙ same))
+        subst (IsReadIn X c nodes rule h (executed_of (run_of c store)) (phases_of c nodes rule (run_of c store))) (sym (done ∙ same))
         (record {
           last = [];
           steps = length (onto (trace_of c) []);
@@ -141,7 +139,7 @@ run_is_read X c nodes rule store h known = by (run_of c store).refused refl
         let split = part c (trace_of c) store r e in
         let here = onto split.before [] in
         let executed : executed_of (run_of c store) ≡ split.step ∷ here
-        = ap reverse split.executed_all ∙ turned (split.before ++ split.step ∷ []) ∙ onto_last split.before split.step [] in
+        = ap reverse split.executed_all ∙ reversed_onto (split.before ++ split.step ∷ []) ∙ onto_last split.before split.step [] in
         let done : completed_of (run_of c store) ≡ here
         = ap (λ (o : Option Refused). drop (if is_some o then 1 else 0) (executed_of (run_of c store))) e ∙ ap (drop 1) executed in
         let vote = refused_ends_at_vote c nodes rule store r known e in
@@ -155,7 +153,7 @@ run_is_read X c nodes rule store h known = by (run_of c store).refused refl
         = ap (λ past. inspects_step c past split.step) (sym (vote.steps_before ∙ done)) ∙ ap (inspects_step c vote.vote.past) (sym same)
         ∙ inspects in
         let outs = output_phases (length (trace_of c)) here 0 c.outputs in
-        subst (IsRead X c nodes rule h (executed_of (run_of c store)) (phases_of c nodes rule (run_of c store))) (sym done)
+        subst (IsReadIn X c nodes rule h (executed_of (run_of c store)) (phases_of c nodes rule (run_of c store))) (sym done)
         (record {
           last = of_refused c nodes rule h here split.step;
           steps = length (trace_of c);

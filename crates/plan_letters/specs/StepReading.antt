@@ -9,6 +9,7 @@ use Rattle.std.proofs.lemmas.Bool.Decides.{nat_tests}
 use Rattle.chaos_dist.specs.declared.step_form.StepForm.{StepForm}
 use Rattle.chaos_dist.specs.declared.step_form.StepForm.TheVariants.{Regular, Map}
 use Rattle.chaos_letter.specs.declared.kind.Kind.{Kind}
+use Rattle.chaos_letter.specs.declared.kind.Kind.TheVariants as kind
 use Rattle.chaos_letter.specs.declared.letter.Letter.{Letter}
 use Rattle.fd_words.specs.Roles.{is_index}
 use Rattle.fd_program.specs.declared.checked.Checked.{Checked}
@@ -21,11 +22,13 @@ use Rattle.plan_loop.specs.declared.loop_phase.Asking.{Asking}
 use Rattle.plan_loop.specs.declared.loop_phase.Asking.TheVariants.{Indexes, Homes, References}
 use Rattle.plan_loop.specs.declared.loop_phase.LoopPhase.{LoopPhase}
 use Rattle.plan_loop.specs.declared.loop_phase.LoopPhase.TheVariants as phase
-use Rattle.plan_run.specs.Phases.{moving_stages, loop_stages}
+use Rattle.plan_run.specs.Phases.{moving_stages, loop_stages, kind_of}
 use Rattle.plan_run.specs.declared.stage.Stage.{Stage}
 use Rattle.plan_run.specs.declared.stage.Stage.TheVariants as stage
 use Rattle.plan_letters.specs.Carried.{is_kind, is_of, stands, executions, places_in, carried, step_at, is_at, numbers_where}
 use Rattle.plan_letters.specs.PhaseReading.{Reading, of_step, of_steps}
+use Rattle.plan_letters.specs.RunReading.{IsQuiet}
+use Rattle.plan_run.specs.OwnerLaws.{equals_itself}
 
 -- ---- the stages of a step
 
@@ -176,15 +179,12 @@ still_at test past step k e =
     ap (λ b. option_map_or (λ (step, past). test past step) (if b then Some (step, past) else step_at past k) false)
     (greater (length past) k (at_is_below test past k e)) ∙ e
 
-itself : (n : ℕ) → (n == n) ≡ true
-itself n = grind (arith, nat_tests)
-
 pub at_itself : (test : List Step → Step → Bool) (past : List Step) (step : Step) (k : ℕ) → k ≡ length past → test past step ≡ true
     → is_at test (step ∷ past) k ≡ true
 at_itself test past step k same e =
     subst (λ n. is_at test (step ∷ past) n ≡ true) (sym same)
     (ap (λ b. option_map_or (λ (step, past). test past step) (if b then Some (step, past) else step_at past (length past)) false)
-    (itself (length past)) ∙ e)
+    (equals_itself (length past)) ∙ e)
 
 -- a step that stands among them has the number of the steps before it
 behind : (later past : List Step) (step : Step) → length past < length (later ++ step ∷ past)
@@ -192,7 +192,7 @@ behind [] past step = omega arith
 behind (x ∷ later) past step = omega (arith, behind later past step)
 
 pub step_is_at : (later past : List Step) (step : Step) → step_at (later ++ step ∷ past) (length past) ≡ Some (step, past)
-step_is_at [] past step = ap (λ b. if b then Some (step, past) else step_at past (length past)) (itself (length past))
+step_is_at [] past step = ap (λ b. if b then Some (step, past) else step_at past (length past)) (equals_itself (length past))
 step_is_at (x ∷ later) past step =
     ap (λ b. if b then Some (x, later ++ step ∷ past) else step_at (later ++ step ∷ past) (length past))
     (greater (length (later ++ step ∷ past)) (length past) (behind later past step))
@@ -247,6 +247,14 @@ execution_of kind letter = if is_kind kind letter.kind then letter.execution ∷
 
 abbrev pub places_told : Kind → ℕ → Letter → List (ℤ × ℤ)
 places_told kind k letter = if is_of kind k letter then places_in letter.numbers else []
+
+-- what is read of a kind from a stage of step n
+abbrev pub named : Kind → ℕ → Stage → List ℕ
+named sort n stage = if is_kind sort (kind_of stage) then n ∷ [] else []
+
+pub not_printed : (sort : Kind) → is_kind sort kind.Print ≡ false → IsQuiet (execution_of sort)
+not_printed sort e letter printed = ap (λ k. if is_kind sort k then letter.execution ∷ [] else []) printed
+    ∙ ap (λ b. if b then letter.execution ∷ [] else []) e
 
 pub executions_read : (kind : Kind) (letters : List Letter) → executions kind letters ≡ flat_map (execution_of kind) letters
 executions_read kind [] = refl

@@ -27,7 +27,7 @@ use Rattle.fd_program.specs.declared.site.Site.{Site}
 use Rattle.fd_program.specs.declared.trace.Step.{Step}
 use Rattle.fd_program.specs.declared.trace.Step.TheVariants as step
 use Rattle.fd_trace.specs.declared.budget.Left.{Left}
-use Rattle.fd_trace.specs.Events.{Event, Bad, Begins, Works, Prints, bad, further, along, whole, fault_in}
+use Rattle.fd_trace.specs.Events.{Event, Bad, Begins, Works, Prints, bad, further_event, along, whole, fault_in}
 use Rattle.fd_trace.specs.Sizes.{scalar_faults, adds_faults}
 use Rattle.fd_trace.specs.Way.{way, way_of, way_of_statement, turn_way, work_way, loop_way, output_event, first_fault}
 use Rattle.plan_run.specs.Limits.{IsStepWithin, IsWithin}
@@ -65,11 +65,11 @@ pub record IsSpent (old new : Left) (es : List Event) : Type 0 where
   pub elements : printed_in es + new.elements ≤ old.elements
   pub light : AllByRecursion IsLight es
 
-stuck : (f : SourceFault) (es : List Event) → fold further (Err f) es ≡ Err f
+stuck : (f : SourceFault) (es : List Event) → fold further_event (Err f) es ≡ Err f
 stuck f [] = refl
 stuck f (e ∷ es) = stuck f es
 
-not_on : (f : SourceFault) (es : List Event) (new : Left) → fold further (Err f) es ≡ Ok new → ⊥
+not_on : (f : SourceFault) (es : List Event) (new : Left) → fold further_event (Err f) es ≡ Ok new → ⊥
 not_on f es new e = let wrong : Err f ≡ Ok new = sym (stuck f es) ∙ e in cc
 
 some_turns : (n : ℕ) → nat_eq n 0 ≡ false → 1 ≤ n
@@ -89,7 +89,7 @@ spent (Begins at ∷ es) old new e =
     mid : Left
     mid = record { turns = old.turns - 1; elements = old.elements }
 
-    by : (b : Bool) → nat_eq old.turns 0 ≡ b → (f : SourceFault) → fold further (if b then Err f else Ok mid) es ≡ Ok new
+    by : (b : Bool) → nat_eq old.turns 0 ≡ b → (f : SourceFault) → fold further_event (if b then Err f else Ok mid) es ≡ Ok new
         → (along mid es ≡ Ok new → IsSpent mid new es) → IsSpent old new (Begins at ∷ es)
     by true s f e later = absurd (not_on f es new e)
     by false s f e later =
@@ -97,7 +97,7 @@ spent (Begins at ∷ es) old new e =
         record { turns = omega (arith, rest.turns, some_turns old.turns s); elements = rest.elements; light = (tt, rest.light) }
 spent (Works at n ∷ es) old new e = by (nat_lt 16777216 n) refl _ e (spent es old new)
   where
-    by : (b : Bool) → nat_lt 16777216 n ≡ b → (f : SourceFault) → fold further (if b then Err f else Ok old) es ≡ Ok new
+    by : (b : Bool) → nat_lt 16777216 n ≡ b → (f : SourceFault) → fold further_event (if b then Err f else Ok old) es ≡ Ok new
         → (along old es ≡ Ok new → IsSpent old new es) → IsSpent old new (Works at n ∷ es)
     by true s f e later = absurd (not_on f es new e)
     by false s f e later = let rest = later e in record {
@@ -111,7 +111,7 @@ spent (Prints at n ∷ es) old new e =
     mid : Left
     mid = record { turns = old.turns; elements = old.elements - n }
 
-    by : (b : Bool) → nat_lt old.elements n ≡ b → (f : SourceFault) → fold further (if b then Err f else Ok mid) es ≡ Ok new
+    by : (b : Bool) → nat_lt old.elements n ≡ b → (f : SourceFault) → fold further_event (if b then Err f else Ok mid) es ≡ Ok new
         → (along mid es ≡ Ok new → IsSpent mid new es) → IsSpent old new (Prints at n ∷ es)
     by true s f e later = absurd (not_on f es new e)
     by false s f e later =
@@ -138,7 +138,7 @@ light_split (e ∷ es) fs h = let rest = light_split es fs h.1 in ((h.0, rest.0)
 
 -- ---- the steps that a way goes through
 
-pub record Goes (c : Checked) (steps : List Step) (es : List Event) : Type 0 where
+pub record StaysWithin (c : Checked) (steps : List Step) (es : List Event) : Type 0 where
   pub few : length steps ≤ begun es
   pub work : AllByRecursion IsLight es → AllByRecursion (IsStepWithin c) steps
 
@@ -146,27 +146,28 @@ length_append : (xs ys : List Step) → length (xs ++ ys) ≡ length xs + length
 length_append [] ys = omega arith
 length_append (x ∷ xs) ys = omega (arith, length_append xs ys)
 
-goes_append : (c : Checked) (xs ys : List Step) (es fs : List Event) → Goes c xs es → Goes c ys fs → Goes c (xs ++ ys) (es ++ fs)
+goes_append : (c : Checked) (xs ys : List Step) (es fs : List Event) → StaysWithin c xs es → StaysWithin c ys fs
+    → StaysWithin c (xs ++ ys) (es ++ fs)
 goes_append c xs ys es fs h g = record {
   few = omega (arith, length_append xs ys, begun_append es fs, h.few, g.few);
   work = λ light. let both = light_split es fs light in all_append (IsStepWithin c) xs ys (h.work both.0) (g.work both.1);
 }
 
-goes_none : (c : Checked) (es : List Event) → Goes c [] es
+goes_none : (c : Checked) (es : List Event) → StaysWithin c [] es
 goes_none c es = record { few = omega arith; work = λ light. tt }
 
-goes_behind : (c : Checked) (xs : List Step) (es fs : List Event) → Goes c xs fs → Goes c xs (es ++ fs)
+goes_behind : (c : Checked) (xs : List Step) (es fs : List Event) → StaysWithin c xs fs → StaysWithin c xs (es ++ fs)
 goes_behind c xs es fs h = goes_append c [] xs es fs (goes_none c es) h
 
-goes_turn : (c : Checked) (at : SourcePlace) (xs : List Step) (es : List Event) → Goes c xs es → Goes c xs (Begins at ∷ es)
+goes_turn : (c : Checked) (at : SourcePlace) (xs : List Step) (es : List Event) → StaysWithin c xs es → StaysWithin c xs (Begins at ∷ es)
 goes_turn c at xs es h = record { few = omega (arith, h.few); work = λ light. h.work light.1 }
 
 -- ---- a FORALL
 
-get_below : {A : Type 0} (xs : List A) (k : ℕ) → k < length xs → (x : A) × (slice_get xs k ≡ Some x)
-get_below [] k h = absurd (omega (arith, h))
-get_below (x ∷ xs) zero h = (x, refl)
-get_below (x ∷ xs) (suc k) h = get_below xs k (omega (arith, h))
+some_below : {A : Type 0} (xs : List A) (k : ℕ) → k < length xs → (x : A) × (slice_get xs k ≡ Some x)
+some_below [] k h = absurd (omega (arith, h))
+some_below (x ∷ xs) zero h = (x, refl)
+some_below (x ∷ xs) (suc k) h = some_below xs k (omega (arith, h))
 
 some_there : (rs : List Reference) (k : ℕ) (P : Reference → Type 0) → IsSomeAnd (slice_get rs k) P → 1 ≤ length rs
 some_there [] zero P h = absurd h
@@ -182,7 +183,7 @@ site_some arrays site h = by site.body h.some (recursion_from_All (IsStatement s
 
 references_some : (c : Checked) (k : ℕ) → IsChecked c → k < length c.sites → 1 ≤ length (site_at c.sites k).references
 references_some c k checked less =
-    let found = get_below c.sites k less in
+    let found = some_below c.sites k less in
     let it : IsSite c.arrays found.0 = all_at (IsSite c.arrays) c.sites k found.0
     (recursion_from_All (IsSite c.arrays) c.sites checked.sites) found.1 in
     subst (λ (o : Option Site). 1 ≤ length (unwrap_or o no_site).references) (sym found.1) (site_some c.arrays found.0 it)
@@ -195,11 +196,11 @@ least : (z : ℤ) → z ≤ℤ pos 0 → natural z ≡ 0
 least (pos n) h = omega (arith, ints, h)
 least (negsuc n) h = refl
 
-is_less : (a b : ℤ) → int_lt a b ≡ true → a <ℤ b
-is_less a b e = grind (arith, ints)
+less_is : (a b : ℤ) → int_lt a b ≡ true → a <ℤ b
+less_is a b e = grind (arith, ints)
 
 none_between : (low high : ℤ) → is_empty_range low high ≡ true → count_between low high ≡ 0
-none_between low high e = let less : high <ℤ low = is_less high low e in least (high -ℤ low +ℤ pos 1) (omega (arith, ints, less))
+none_between low high e = let less : high <ℤ low = less_is high low e in least (high -ℤ low +ℤ pos 1) (omega (arith, ints, less))
 
 loop_work : (variables : List ℤ) (site : Site) (low high : ℤ) → AllByRecursion IsLight (work_way variables site low high)
     → count_between low high * length site.references ≤ 16777216
@@ -217,7 +218,7 @@ loop_work variables site low high = by (is_empty_range low high) refl
         light).1.0
 
 loop_goes : (c : Checked) (site : ℕ) (variables : List ℤ) → IsChecked c → site < length c.sites
-    → Goes c (step.Forall site (turn_of variables (site_at c.sites site)) ∷ []) (loop_way variables (site_at c.sites site))
+    → StaysWithin c (step.Forall site (turn_of variables (site_at c.sites site)) ∷ []) (loop_way variables (site_at c.sites site))
 loop_goes c site variables checked less =
     let s : Site = site_at c.sites site in
     let low : ℤ = scalar_value variables s.low in
@@ -241,8 +242,8 @@ loop_goes c site variables checked less =
 
 turns_go : (c : Checked) (body : List ℤ → ℕ → List Step) (ways : List ℤ → ℕ → List Event) (variables : List ℤ) (at : SourcePlace)
     (inside : ℕ)
-    → ((inner : List ℤ) (count : ℕ) → Goes c (body inner count) (ways inner count)) → (ks : List ℤ)
-    → Goes c (flat_map (λ k. body (variables ++ k ∷ []) inside) ks) (flat_map (turn_way ways variables at inside) ks)
+    → ((inner : List ℤ) (count : ℕ) → StaysWithin c (body inner count) (ways inner count)) → (ks : List ℤ)
+    → StaysWithin c (flat_map (λ k. body (variables ++ k ∷ []) inside) ks) (flat_map (turn_way ways variables at inside) ks)
 turns_go c body ways variables at inside h [] = goes_none c []
 turns_go c body ways variables at inside h (k ∷ ks) =
     goes_append c (body (variables ++ k ∷ []) inside) (flat_map (λ k. body (variables ++ k ∷ []) inside) ks)
@@ -252,8 +253,8 @@ turns_go c body ways variables at inside h (k ∷ ks) =
 
 statement_goes : (c : Checked) (body : List ℤ → ℕ → List Step) (ways : List ℤ → ℕ → List Event) (variables : List ℤ)
     (s : CheckedStatement) → IsChecked c → IsStatementOf c s
-    → ((inner : List ℤ) (count : ℕ) → Goes c (body inner count) (ways inner count))
-    → Goes c (steps_of_statement c.sites body variables s) (way_of_statement c ways variables s)
+    → ((inner : List ℤ) (count : ℕ) → StaysWithin c (body inner count) (ways inner count))
+    → StaysWithin c (steps_of_statement c.sites body variables s) (way_of_statement c ways variables s)
 statement_goes c body ways variables (Distribute at decomposition form) checked known h =
     record { few = omega arith; work = λ light. (tt, tt) }
 statement_goes c body ways variables (Print at array) checked known h = record { few = omega arith; work = λ light. (tt, tt) }
@@ -264,7 +265,7 @@ statement_goes c body ways variables (Forall site) checked known h = loop_goes c
 
 goes_of : (c : Checked) (ss : List CheckedStatement) → IsChecked c → AllByRecursion (IsStatementOf c) ss
     → (variables : List ℤ) (skip count : ℕ)
-    → Goes c (steps_of c.sites variables skip count ss) (way_of c variables skip count ss)
+    → StaysWithin c (steps_of c.sites variables skip count ss) (way_of c variables skip count ss)
 goes_of c [] checked known variables skip count = goes_none c []
 goes_of c (s ∷ rest) checked known variables (suc skip) count = goes_of c rest checked known.1 variables skip count
 goes_of c (s ∷ rest) checked known variables zero zero = goes_none c []
@@ -279,7 +280,7 @@ goes_of c (s ∷ rest) checked known variables zero (suc count) =
 
 extent_some : (c : Checked) (k : ℕ) → IsChecked c → k < length c.arrays → 1 ≤ (array_at c.arrays k).extent
 extent_some c k checked less =
-    let found = get_below c.arrays k less in
+    let found = some_below c.arrays k less in
     let it : IsAligned c.layouts found.0 = all_at (IsAligned c.layouts) c.arrays k found.0
     (recursion_from_All (IsAligned c.layouts) c.arrays checked.arrays) found.1 in
     subst (λ (o : Option ArrayFacts). 1 ≤ (unwrap_or o no_array).extent) (sym found.1) it.extent.some

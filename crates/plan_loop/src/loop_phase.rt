@@ -3,15 +3,6 @@ ghost use Rattle.plan_loop.specs.LoopLetters.{kind_in_loop};
 
 use chaos_letter::Kind;
 
-/// Whose places an inspection asks for: those of index arrays' elements, of the references that tell
-/// homes, or of all other references.
-#[derive(Clone, Copy, Debug, PartialEq, Eq)]
-pub enum Asking {
-    Indexes,
-    Homes,
-    References,
-}
-
 /// A phase of one execution of a FORALL. An inspection goes through some of those up to `ScheduleAsk`,
 /// and every execution through the last two.
 #[derive(Clone, Copy, Debug, PartialEq, Eq)]
@@ -25,6 +16,15 @@ pub enum LoopPhase {
     ScheduleAsk,
     Gather,
     Scatter,
+}
+
+/// Whose places an inspection asks for: those of index arrays' elements, of the references that tell
+/// homes, or of all other references.
+#[derive(Clone, Copy, Debug, PartialEq, Eq)]
+pub enum Asking {
+    Indexes,
+    Homes,
+    References,
 }
 
 impl LoopPhase {

@@ -1,7 +1,7 @@
 -- The phases of a refused run end with the vote of the refused step, and the OUTPUT arrays.
 use Rattle.std.specs.Prelude.{◌≡◌, refl, ℕ, zero, suc, ◌+◌, ◌<◌, ◌≤◌, ℤ, Bool, true, false, ◌&&◌, ◌==◌, if◌then◌else◌, List, [], ◌∷◌, ◌++◌}
 use Rattle.std.specs.Prelude.{length, map, filter_map, flat_map, drop, is_some, slice_get, unwrap_or, Option, Some, None}
-use Rattle.std.specs.List.{AllByRecursion, list_any}
+use Rattle.std.specs.List.{AllByRecursion}
 use Rattle.std.specs.Option.{option_map}
 use Rattle.std.proofs.Common.{ap, sym, ◌∙◌, subst, arith, append_assoc, append-nil}
 use Rattle.std.proofs.lemmas.Bool.Decides.{nat_tests}
@@ -9,34 +9,30 @@ use Rattle.std.proofs.lemmas.Grind.{reverse_onto}
 use Rattle.fd_words.specs.declared.place.Offence.{Offence}
 use Rattle.fd_words.specs.Lists.{list_at}
 use Rattle.fd_program.specs.Checks.{IsChecked}
-use Rattle.fd_program.specs.Layouts.{Scene, scene_of, store_at, facts_at}
+use Rattle.fd_program.specs.Layouts.{Scene, scene_of, store_at}
 use Rattle.fd_program.specs.ListLaws.{all_append, all_weaker}
 use Rattle.fd_program.specs.Loops.{first_of, offence_of, offence_at, iterations_of}
-use Rattle.fd_program.specs.Past.{inspects_at}
 use Rattle.fd_program.specs.Reports.{executed_of, completed_of}
 use Rattle.fd_program.specs.RunLaws.{IsReached, IsHistory, reached_next, reached_start}
 use Rattle.fd_program.specs.Runs.{Run, run_past, run_from, run_of, stores_of, refusal_of, after_step}
 use Rattle.fd_program.specs.Trace.{trace_of, site_at, no_site, is_empty_turn}
 use Rattle.fd_program.specs.Uses.{uses_of}
-use Rattle.fd_words.specs.Roles.{is_index}
 use Rattle.fd_program.specs.declared.array.ArrayFacts.{ArrayFacts}
 use Rattle.fd_program.specs.declared.checked.Checked.{Checked}
 use Rattle.fd_program.specs.declared.loop_facts.HomeRule.{HomeRule}
-use Rattle.fd_program.specs.declared.loop_facts.LoopFacts.{LoopFacts}
-use Rattle.fd_program.specs.declared.reference.Reference.{Reference}
 use Rattle.fd_program.specs.declared.refused.Refused.{Refused}
 use Rattle.fd_program.specs.declared.site.Site.{Site}
 use Rattle.fd_program.specs.declared.trace.LoopTurn.{LoopTurn}
 use Rattle.fd_program.specs.declared.trace.Step.{Step}
 use Rattle.fd_program.specs.declared.trace.Step.TheVariants.{Distribute, Print, Forall}
-use Rattle.plan_loop.specs.LoopLetters.{asks_places, phases_from_vote, executor_phases}
-use Rattle.plan_loop.specs.declared.loop_phase.Asking.TheVariants.{Indexes}
 use Rattle.plan_loop.specs.declared.loop_phase.LoopPhase.TheVariants as phase
-use Rattle.plan_run.specs.Phases.{Phase, is_vote, is_vote_of, cut_at, cut_phases, loop_stages, stages_of, phases_before, phases_from}
+use Rattle.plan_run.specs.Phases.{Phase, is_vote, is_vote_of, cut_at, cut_phases, stages_of, phases_before, phases_from}
 use Rattle.plan_run.specs.Phases.{phases_of, output_phases}
 use Rattle.plan_run.specs.RefusalLaws.{AreCompleted, refused_inspects}
+use Rattle.plan_run.specs.VoteLaws.{HasVote, inspecting_votes, stages_to_vote}
 use Rattle.plan_run.specs.declared.stage.Stage.{Stage}
 use Rattle.plan_run.specs.declared.stage.Stage.TheVariants as stage
+use Rattle.plan_run.specs.OwnerLaws.{equals_itself}
 
 -- ---- statements
 
@@ -94,14 +90,6 @@ site_there c site turn store r h = by (slice_get c.sites site) refl
         (ap (λ (o : Option Site). offence_of c.arrays (unwrap_or o no_site) turn store) e ∙ no_offence c.arrays turn store) h)
     by (Some x) e = within c.sites site x e
 
-some_range : (c : Checked) (site : ℕ) (turn : LoopTurn) (store : List (List ℤ)) (r : Refused) → refusal_of c (Forall site turn) store
-    ≡ Some r → is_empty_turn turn ≡ false
-some_range c site turn store r h = by (is_empty_turn turn) h
-  where
-    by : (b : Bool) → refusal_with site b (offence_of c.arrays (site_at c.sites site) turn store) ≡ Some r → b ≡ false
-    by true e = cc
-    by false e = refl
-
 -- ---- the phases of a step
 
 -- those of these stages stand before the later ones
@@ -133,9 +121,6 @@ cut_behind k outs [] ys h = refl
 cut_behind k outs (x ∷ xs) ys h =
     ap (λ b. x ∷ (if b then outs else cut_at k outs (xs ++ ys))) h.0 ∙ ap (λ l. x ∷ l) (cut_behind k outs xs ys h.1)
 
-itself : (n : ℕ) → (n == n) ≡ true
-itself n = grind (arith, nat_tests)
-
 record IsCut (k : ℕ) (past : List Step) (step : Step) (a : Stage) (outs phases : List Phase) : Type 0 where
   mine : List Phase
   left : ℕ
@@ -148,12 +133,12 @@ cut_stages : (k : ℕ) (outs later : List Phase) (past : List Step) (step : Step
 cut_stages k outs later past step [] vs a h e =
     let rest = phases_before later past step k vs in
     let f : Phase = record { past = past; step = step; stage = a; execution = k; left = length rest + 1 } in
-    let is : is_vote_of k f ≡ true = ap (λ b. b && is_vote a) (itself k) ∙ e in
+    let is : is_vote_of k f ≡ true = ap (λ b. b && is_vote a) (equals_itself k) ∙ e in
     record { mine = []; left = length rest + 1; all = ap (λ b. f ∷ (if b then outs else cut_at k outs rest)) is; none = tt }
 cut_stages k outs later past step (u ∷ us) vs a h e =
     let rest = phases_before later past step k (us ++ a ∷ vs) in
     let f : Phase = record { past = past; step = step; stage = u; execution = k; left = length rest + 1 } in
-    let not_it : is_vote_of k f ≡ false = ap (λ b. b && is_vote u) (itself k) ∙ h.0 in
+    let not_it : is_vote_of k f ≡ false = ap (λ b. b && is_vote u) (equals_itself k) ∙ h.0 in
     let more = cut_stages k outs later past step us vs a h.1 e in
     record {
       mine = f ∷ more.mine;
@@ -162,53 +147,14 @@ cut_stages k outs later past step (u ∷ us) vs a h e =
       none = (not_it, more.none);
     }
 
-record HasVote (stages : List Stage) : Type 0 where
-  first : List Stage
-  behind : List Stage
-  all : stages ≡ first ++ stage.InLoop phase.Vote ∷ behind
-  none : AllByRecursion (λ u. is_vote u ≡ false) first
-
-inspection_votes : (f : LoopFacts) → HasVote (loop_stages f true)
-inspection_votes f = by (asks_places f Indexes) (list_any (λ (r : Reference). is_index r.role) f.site.references)
-  where
-    behind_vote : List Stage
-    behind_vote = map (λ l. stage.InLoop l) (phases_from_vote f ++ executor_phases)
-
-    by : (a b : Bool)
-        → HasVote (map stage.InLoop ((((if a then phase.DerefAsk Indexes ∷ phase.DerefAnswer Indexes ∷ [] else [])
-        ++ (if b then phase.IndexAsk ∷ phase.IndexValues ∷ [] else []) ++ phase.Vote ∷ []) ++ phases_from_vote f) ++ executor_phases))
-    by true true = record {
-      first = stage.InLoop (phase.DerefAsk Indexes) ∷ stage.InLoop (phase.DerefAnswer Indexes) ∷ stage.InLoop phase.IndexAsk
-          ∷ stage.InLoop phase.IndexValues ∷ [];
-      behind = behind_vote;
-      all = refl;
-      none = (refl, (refl, (refl, (refl, tt))));
-    }
-    by true false = record {
-      first = stage.InLoop (phase.DerefAsk Indexes) ∷ stage.InLoop (phase.DerefAnswer Indexes) ∷ [];
-      behind = behind_vote;
-      all = refl;
-      none = (refl, (refl, tt));
-    }
-    by false true = record {
-      first = stage.InLoop phase.IndexAsk ∷ stage.InLoop phase.IndexValues ∷ [];
-      behind = behind_vote;
-      all = refl;
-      none = (refl, (refl, tt));
-    }
-    by false false = record { first = []; behind = behind_vote; all = refl; none = tt }
-
 refused_votes : (s : Scene) (past : List Step) (step : Step) (r : Refused) → IsChecked s.checked → IsHistory s past → AreCompleted s past
-    → refusal_of s.checked step (store_at s past) ≡ Some r → HasVote (stages_of s.checked s.nodes s.rule past step)
+    → refusal_of s.checked step (store_at s past) ≡ Some r
+    → HasVote (stages_to_vote s.checked s.nodes s.rule past step) (stages_of s.checked s.nodes s.rule past step)
 refused_votes s past (Distribute d form) r known history completed h = cc
 refused_votes s past (Print array) r known history completed h = cc
 refused_votes s past (Forall site turn) r known history completed h =
-    let f = facts_at s.checked s.nodes s.rule past site turn in
-    subst (λ b. HasVote (if b then [] else loop_stages f (inspects_at s.checked past site turn)))
-    (sym (some_range s.checked site turn (store_at s past) r h))
-    (subst (λ b. HasVote (loop_stages f b))
-    (sym (refused_inspects s past site turn r known (site_there s.checked site turn (store_at s past) r h) history completed h))
-    (inspection_votes f))
+    inspecting_votes s.checked s.nodes s.rule past (Forall site turn)
+    (refused_inspects s past site turn r known (site_there s.checked site turn (store_at s past) r h) history completed h)
 
 -- ---- the refused step
 
@@ -291,8 +237,9 @@ first_store c (step ∷ steps) store = by (refusal_of c step store)
     by None = refl
     by (Some r) = refl
 
-begins : (c : Checked) (nodes : ℕ) (rule : HomeRule) (store : List (List ℤ)) → store_at (scene_of c nodes rule (run_of c store)) [] ≡ store
-begins c nodes rule store = first_store c (trace_of c) store
+begins_with : (c : Checked) (nodes : ℕ) (rule : HomeRule) (store : List (List ℤ)) → store_at (scene_of c nodes rule (run_of c store)) []
+    ≡ store
+begins_with c nodes rule store = first_store c (trace_of c) store
 
 found_in_run : (c : Checked) (nodes : ℕ) (rule : HomeRule) (store : List (List ℤ)) (r : Refused) → (run_of c store).refused ≡ Some r
     → Finds (scene_of c nodes rule (run_of c store)) r [] (phases_from c nodes rule [] (trace_of c)) (executed_of (run_of c store))
@@ -300,9 +247,9 @@ found_in_run c nodes rule store r e =
     let s = scene_of c nodes rule (run_of c store) in
     subst (λ steps. Finds s r [] (phases_from c nodes rule [] (trace_of c)) steps) (append-nil (executed_of (run_of c store)))
     (subst (λ begin. Finds s r [] (phases_from c nodes rule [] (trace_of c)) (executed_of (run_from c (trace_of c) begin) ++ []))
-    (begins c nodes rule store)
+    (begins_with c nodes rule store)
     (finds s r [] (trace_of c) (reached_start c nodes rule store) tt tt
-    (ap (λ begin. (run_from c (trace_of c) begin).refused) (begins c nodes rule store) ∙ e)))
+    (ap (λ begin. (run_from c (trace_of c) begin).refused) (begins_with c nodes rule store) ∙ e)))
 
 -- ---- the laws
 
@@ -317,8 +264,8 @@ run_is_completed c nodes rule store r e =
     subst (AreCompleted (scene_of c nodes rule (run_of c store))) (sym (completed_here c nodes rule store r e))
     (found_in_run c nodes rule store r e).completed
 
-other_number : (n k : ℕ) → n < k → (n == k) ≡ false
-other_number n k h = grind (arith, nat_tests)
+lower_is_unequal : (n k : ℕ) → n < k → (n == k) ≡ false
+lower_is_unequal n k h = grind (arith, nat_tests)
 
 pub refused_ends_at_vote : RefusedEndsAtVote
 refused_ends_at_vote c nodes rule store r known e =
@@ -333,7 +280,7 @@ refused_ends_at_vote c nodes rule store r known e =
     let vote : Phase = record { past = found.here; step = found.step; stage = stage.InLoop phase.Vote; execution = k; left = cut.left } in
     let none : AllByRecursion (λ f. is_vote_of k f ≡ false) found.earlier =
     all_weaker (λ (f : Phase). f.execution < k) (λ f. is_vote_of k f ≡ false) (λ f less. ap (λ b. b && is_vote f.stage)
-    (other_number f.execution k less)) found.earlier found.below_here in
+    (lower_is_unequal f.execution k less)) found.earlier found.below_here in
     record {
       earlier = found.earlier ++ cut.mine;
       vote = vote;

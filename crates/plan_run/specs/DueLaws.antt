@@ -13,7 +13,7 @@ use Rattle.bsp_core.specs.Lockstep.{upto, IsEnd, sum_below, letters_before}
 use Rattle.fd_program.specs.Layouts.{Scene}
 use Rattle.plan_run.specs.declared.stage.Stage.{Stage}
 use Rattle.plan_run.specs.declared.stage.Stage.TheVariants as stage
-use Rattle.plan_run.specs.Phases.{Phase, letter_of, is_sent, due, due_in, due_list, letters_in, moves_in, moves_of}
+use Rattle.plan_run.specs.Phases.{Phase, letter_of, is_sent, due, due_in, due_list, letters_in, moves_in_phases, run_moves}
 use Rattle.plan_run.specs.Picks.{picked_one}
 use Rattle.plan_run.specs.Rows.{RunPlan, scene_in, phases_in, face_left, node_row}
 use Rattle.plan_run.specs.RowLaws.{Falls, left_of, left_face, falls_in, falls_drop}
@@ -26,7 +26,7 @@ RowsHaveDueLists = (plan : RunPlan) (p q end : ℕ) → q < plan.nodes → IsEnd
 -- and there are two actions for each letter, and one work of each node in each phase
 abbrev pub RowsHaveMoves : Type 0
 RowsHaveMoves = (plan : RunPlan) (end : ℕ) → 0 < plan.nodes → IsEnd (node_row plan) end
-    → 2 * letters_before (node_row plan) plan.nodes end + plan.nodes * end ≡ moves_of plan.checked plan.nodes plan.rule plan.store
+    → 2 * letters_before (node_row plan) plan.nodes end + plan.nodes * end ≡ run_moves plan.checked plan.nodes plan.rule plan.store
 
 -- ---- the letters before a phase
 
@@ -63,10 +63,10 @@ none_left : (fs : List Phase) → Falls fs → left_of fs ≡ 0 → fs ≡ []
 none_left [] h e = refl
 none_left (f ∷ rest) h e = absurd (omega (arith, h.0, e))
 
-take_whole : {A : Type 0} (t : ℕ) (xs : List A) → drop t xs ≡ [] → take t xs ≡ xs
-take_whole zero xs e = sym e
-take_whole (suc t) [] e = refl
-take_whole (suc t) (x ∷ xs) e = ap (λ l. x ∷ l) (take_whole t xs e)
+takes_whole : {A : Type 0} (t : ℕ) (xs : List A) → drop t xs ≡ [] → take t xs ≡ xs
+takes_whole zero xs e = sym e
+takes_whole (suc t) [] e = refl
+takes_whole (suc t) (x ∷ xs) e = ap (λ l. x ∷ l) (takes_whole t xs e)
 
 pub end_drops : (plan : RunPlan) (end : ℕ) → IsEnd (node_row plan) end → drop end (phases_in plan) ≡ []
 end_drops plan end h =
@@ -75,7 +75,7 @@ end_drops plan end h =
 
 pub rows_have_due_lists : RowsHaveDueLists
 rows_have_due_lists plan p q end h e =
-    upto_due plan p q end h ∙ ap (λ fs. due_in (scene_in plan) fs p q) (take_whole end (phases_in plan) (end_drops plan end e))
+    upto_due plan p q end h ∙ ap (λ fs. due_in (scene_in plan) fs p q) (takes_whole end (phases_in plan) (end_drops plan end e))
 
 -- ---- sums over nodes
 
@@ -103,57 +103,58 @@ pairs_ext n f g h = sum_ext n (λ p. sum_below n (f p)) (λ p. sum_below n (g p)
 
 -- ---- how many letters a phase has
 
-abbrev pub one_if : Bool → ℕ
-one_if b = if b then 1 else 0
+abbrev pub one_if_true : Bool → ℕ
+one_if_true b = if b then 1 else 0
 
-is_other : (p q : ℕ) → p ≡ q → one_if (not (p == q)) ≡ 0
+is_other : (p q : ℕ) → p ≡ q → one_if_true (not (p == q)) ≡ 0
 is_other p q e = grind (arith, nat_tests)
 
-is_one : (p q : ℕ) → p ≢ q → one_if (not (p == q)) ≡ 1
+is_one : (p q : ℕ) → p ≢ q → one_if_true (not (p == q)) ≡ 1
 is_one p q e = grind (arith, nat_tests)
 
 -- the nodes below m other than p
-all_below : (m p : ℕ) → m ≤ p → sum_below m (λ q. one_if (not (p == q))) ≡ m
+all_below : (m p : ℕ) → m ≤ p → sum_below m (λ q. one_if_true (not (p == q))) ≡ m
 all_below zero p h = refl
 all_below (suc m) p h = omega (arith, all_below m p (omega (arith, h)), is_one p m (λ e. absurd (omega (arith, h, e))))
 
-others_below : (m p : ℕ) → p < m → sum_below m (λ q. one_if (not (p == q))) ≡ m - 1
+others_below : (m p : ℕ) → p < m → sum_below m (λ q. one_if_true (not (p == q))) ≡ m - 1
 others_below zero p h = absurd (omega (arith, h))
 others_below (suc m) p h = elim (cases_eq p m) [
   | inl e ↦ omega (arith, all_below m p (omega (arith, e)), is_other p m e)
   | inr e ↦ omega (arith, others_below m p (omega (arith, h, e)), is_one p m e, h, e)
 ]
 
-to_all : (n : ℕ) → sum_below n (λ p. sum_below n (λ q. one_if (not (p == q)))) ≡ n * (n - 1)
-to_all n = sum_ext n (λ p. sum_below n (λ q. one_if (not (p == q)))) (λ p. n - 1) (λ p l. others_below n p l) ∙ sum_same n (n - 1)
+to_all : (n : ℕ) → sum_below n (λ p. sum_below n (λ q. one_if_true (not (p == q)))) ≡ n * (n - 1)
+to_all n = sum_ext n (λ p. sum_below n (λ q. one_if_true (not (p == q)))) (λ p. n - 1) (λ p l. others_below n p l) ∙ sum_same n (n - 1)
 
 not_first : (m : ℕ) → (suc m == 0) ≡ false
 not_first m = grind (arith, nat_tests)
 
 -- p sends to the first alone
-to_one : (m p : ℕ) → sum_below (suc m) (λ q. one_if (not (p == q) && (q == 0))) ≡ one_if (not (p == 0))
+to_one : (m p : ℕ) → sum_below (suc m) (λ q. one_if_true (not (p == q) && (q == 0))) ≡ one_if_true (not (p == 0))
 to_one zero p = by (not (p == 0))
   where
-    by : (b : Bool) → 0 + one_if (b && true) ≡ one_if b
+    by : (b : Bool) → 0 + one_if_true (b && true) ≡ one_if_true b
     by true = refl
     by false = refl
 to_one (suc m) p = omega (arith, to_one m p, none (not (p == suc m)))
   where
-    none : (b : Bool) → one_if (b && (suc m == 0)) ≡ 0
-    none true = ap one_if (not_first m)
+    none : (b : Bool) → one_if_true (b && (suc m == 0)) ≡ 0
+    none true = ap one_if_true (not_first m)
     none false = refl
 
-from_others : (m : ℕ) → sum_below (suc m) (λ p. one_if (not (p == 0))) ≡ m
+from_others : (m : ℕ) → sum_below (suc m) (λ p. one_if_true (not (p == 0))) ≡ m
 from_others zero = refl
 from_others (suc m) = omega (arith, from_others m, is_one (suc m) 0 (λ e. absurd (omega (arith, e))))
 
-to_first : (n : ℕ) → 0 < n → sum_below n (λ p. sum_below n (λ q. one_if (not (p == q) && (q == 0)))) ≡ n - 1
+to_first : (n : ℕ) → 0 < n → sum_below n (λ p. sum_below n (λ q. one_if_true (not (p == q) && (q == 0)))) ≡ n - 1
 to_first zero h = absurd (omega (arith, h))
 to_first (suc m) h =
-    sum_ext (suc m) (λ p. sum_below (suc m) (λ q. one_if (not (p == q) && (q == 0)))) (λ p. one_if (not (p == 0))) (λ p l. to_one m p)
+    sum_ext (suc m) (λ p. sum_below (suc m) (λ q. one_if_true (not (p == q) && (q == 0))))
+    (λ p. one_if_true (not (p == 0))) (λ p l. to_one m p)
     ∙ from_others m ∙ (let back : m ≡ suc m - 1 = omega arith in back)
 
-in_stage : (n : ℕ) (stage : Stage) → 0 < n → sum_below n (λ p. sum_below n (λ q. one_if (is_sent stage p q))) ≡ letters_in n stage
+in_stage : (n : ℕ) (stage : Stage) → 0 < n → sum_below n (λ p. sum_below n (λ q. one_if_true (is_sent stage p q))) ≡ letters_in n stage
 in_stage n stage.Print h = to_first n h
 in_stage n (stage.Output j) h = to_first n h
 in_stage n (stage.MapPairs array) h = to_all n
@@ -165,19 +166,19 @@ in_stage n (stage.InLoop l) h = to_all n
 
 -- ---- how many actions a plan has
 
-count_due : (b : Bool) (x : Letter) → length (cons_option (if b then Some x else None) []) ≡ one_if b
+count_due : (b : Bool) (x : Letter) → length (cons_option (if b then Some x else None) []) ≡ one_if_true b
 count_due true x = refl
 count_due false x = refl
 
 -- the letters of the first of these phases
 first_letters : (s : Scene) (fs : List Phase) → 0 < s.nodes → 0 < length fs
-    → 2 * sum_below s.nodes (λ p. sum_below s.nodes (λ q. length (for_node q (face_left s fs p).out))) + s.nodes ≡ moves_in s.nodes
+    → 2 * sum_below s.nodes (λ p. sum_below s.nodes (λ q. length (for_node q (face_left s fs p).out))) + s.nodes ≡ moves_in_phases s.nodes
     (take 1 fs)
 first_letters s [] some more = absurd (omega (arith, more))
 first_letters s (f ∷ rest) some more =
     let n = s.nodes in
     let counted : sum_below n (λ p. sum_below n (λ q. length (for_node q (face_left s (f ∷ rest) p).out))) ≡ letters_in n f.stage =
-    pairs_ext n (λ p q. length (for_node q (face_left s (f ∷ rest) p).out)) (λ p q. one_if (is_sent f.stage p q))
+    pairs_ext n (λ p q. length (for_node q (face_left s (f ∷ rest) p).out)) (λ p q. one_if_true (is_sent f.stage p q))
     (λ p q l. ap length (row_letters s (f ∷ rest) p q l) ∙ count_due (is_sent f.stage p q) (letter_of s f p q)) ∙ in_stage n f.stage some in
     omega (arith, counted)
 
@@ -197,21 +198,22 @@ drop_some (suc t) (x ∷ xs) h = drop_some t xs (omega (arith, h))
 none_before : (n : ℕ) → sum_below n (λ p. sum_below n (λ q. 0)) ≡ 0
 none_before n = sum_ext n (λ p. sum_below n (λ q. 0)) (λ p. 0) (λ p l. sum_same n 0 ∙ omega arith) ∙ sum_same n 0 ∙ omega arith
 
-pub moves_before : (plan : RunPlan) (t : ℕ) → 0 < plan.nodes → t ≤ length (phases_in plan)
-    → 2 * letters_before (node_row plan) plan.nodes t + plan.nodes * t ≡ moves_in plan.nodes (take t (phases_in plan))
-moves_before plan zero some h = omega (arith, none_before plan.nodes)
-moves_before plan (suc t) some h =
+pub moves_before_is : (plan : RunPlan) (t : ℕ) → 0 < plan.nodes → t ≤ length (phases_in plan)
+    → 2 * letters_before (node_row plan) plan.nodes t + plan.nodes * t ≡ moves_in_phases plan.nodes (take t (phases_in plan))
+moves_before_is plan zero some h = omega (arith, none_before plan.nodes)
+moves_before_is plan (suc t) some h =
     let n = plan.nodes in
     let fs = phases_in plan in
-    let both : moves_in n (take (suc t) fs) ≡ moves_in n (take t fs) + moves_in n (take 1 (drop t fs)) =
-    ap (moves_in n) (take_more t fs) ∙ sum_by-append (λ (f : Phase). 2 * letters_in n f.stage + n) (take t fs) (take 1 (drop t fs)) in
+    let both : moves_in_phases n (take (suc t) fs) ≡ moves_in_phases n (take t fs) + moves_in_phases n (take 1 (drop t fs)) =
+    ap (moves_in_phases n) (take_more t fs)
+    ∙ sum_by-append (λ (f : Phase). 2 * letters_in n f.stage + n) (take t fs) (take 1 (drop t fs)) in
     let next : n * suc t ≡ n * t + n = omega arith in
     omega (
       arith,
       both,
       next,
       letters_next (node_row plan) n t,
-      moves_before plan t some (omega (arith, h)),
+      moves_before_is plan t some (omega (arith, h)),
       first_letters (scene_in plan) (drop t fs) some (drop_some t fs (omega (arith, h))),
     )
 
@@ -225,5 +227,5 @@ pub rows_have_moves : RowsHaveMoves
 rows_have_moves plan end some e =
     let fs = phases_in plan in
     let gone = end_drops plan end e in
-    moves_before plan end some (ends_at end fs gone (λ k less. omega (arith, e.1 k less, left_face (scene_in plan) (drop k fs) 0)))
-    ∙ ap (moves_in plan.nodes) (take_whole end fs gone)
+    moves_before_is plan end some (ends_at end fs gone (λ k less. omega (arith, e.1 k less, left_face (scene_in plan) (drop k fs) 0)))
+    ∙ ap (moves_in_phases plan.nodes) (takes_whole end fs gone)

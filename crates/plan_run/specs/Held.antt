@@ -45,7 +45,7 @@ use Rattle.plan_loop.specs.declared.loop_phase.LoopPhase.{LoopPhase}
 use Rattle.plan_loop.specs.declared.loop_phase.LoopPhase.TheVariants as phase
 pub use Rattle.chaos_table.specs.Pages.{place_in}
 pub use Rattle.plan_tables.specs.Tables.{no_table, entry_at, HasPlaces}
-use Rattle.plan_tables.specs.Tables.{slots_of, IsEntered}
+use Rattle.plan_tables.specs.Tables.{slots_entered, IsEntered}
 use Rattle.plan_run.specs.Phases.{Phase, phases_of, numbers_at}
 pub use Rattle.plan_run.specs.declared.kept.Kept.{Kept}
 use Rattle.plan_run.specs.declared.stage.Stage.{Stage}
@@ -115,13 +115,13 @@ no_hand = record {
 }
 
 -- the elements of each decomposition on p, ascending
-abbrev pub elements_of : List (List ℕ) → ℕ → List (List ℤ)
-elements_of owners p = map (λ o. map pos (elements_on o p)) owners
+abbrev pub elements_held : List (List ℕ) → ℕ → List (List ℤ)
+elements_held owners p = map (λ o. map pos (elements_on o p)) owners
 
 -- whatever the completed steps tell
 pub record Stands (s : Scene) (past : List Step) (p : ℕ) (v : Held) : Type 0 where
   pub parts : v.parts ≡ parts_of s.checked.arrays (owners_at s past) (store_at s past) p
-  pub elements : v.elements ≡ elements_of (owners_at s past) p
+  pub elements : v.elements ≡ elements_held (owners_at s past) p
   pub records : Keeps s.checked past v.records
   pub pages : AllZip (λ d page. HasPage s.nodes p (form_at past d) (list_at (owners_at s past) d) page) (below (length s.checked.layouts))
       v.pages
@@ -135,7 +135,7 @@ was_moved c past before k = list_any (λ d. not (version_at c past d == version_
 -- the inspection is that of an execution, and its ghosts are entered
 pub record IsInspected (f : LoopFacts) (owners : List (List ℕ)) (store : List (List ℤ)) (p : ℕ) (tables : List Stamps)
     (x : Prepared) : Type 0 where
-  pub fits : Fits f owners store (slots_of f tables) p x
+  pub fits : Fits f owners store (slots_entered f tables) p x
   pub entered : IsEntered f owners store p tables
 
 -- the inspection of the execution after `before` is kept, unless a decomposition was moved
@@ -182,13 +182,13 @@ pub record HasIterations (f : LoopFacts) (owners : List (List ℕ)) (store : Lis
 pub record HasReferences (f : LoopFacts) (owners : List (List ℕ)) (store : List (List ℤ)) (p : ℕ) (tables : List Stamps) (h : Hand) : Type
     0 where
   pub iterations : h.iterations ≡ executed_by f owners store p
-  pub references : AllZip (StandsFor f owners (slots_of f tables) p) (kept_uses f store h.iterations) h.references
+  pub references : AllZip (StandsFor f owners (slots_entered f tables) p) (kept_uses f store h.iterations) h.references
   pub entered : IsEntered f owners store p tables
 
 -- the ghost of an element has its value
 abbrev pub IsGhostOf : LoopFacts → List (List ℤ) → List Stamps → List (List ℤ) → Cell → Type 0
 IsGhostOf f store tables ghosts x =
-    IsSomeAnd (slot_for f (slots_of f tables) x.array (pos x.element)) (λ slot. number_at (list_at ghosts x.array) slot
+    IsSomeAnd (slot_for f (slots_entered f tables) x.array (pos x.element)) (λ slot. number_at (list_at ghosts x.array) slot
     ≡ value_before store x)
 
 -- those of all elements that p reads of others

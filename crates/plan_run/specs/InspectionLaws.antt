@@ -16,7 +16,7 @@ use Rattle.plan_loop.specs.declared.loop_phase.LoopPhase.TheVariants as phase
 use Rattle.chaos_sched.specs.declared.prepared.Prepared.{Prepared}
 use Rattle.plan_run.specs.Held.{Kept, IsInspected, KeepsLoop, KeepsInStep, EachLoop, is_executing}
 use Rattle.plan_run.specs.KeptLaws.{inspected_is_kept, differ}
-use Rattle.plan_run.specs.OwnerLaws.{same_number}
+use Rattle.plan_run.specs.OwnerLaws.{equals_itself}
 use Rattle.plan_run.specs.StandLaws.{zip_set}
 use Rattle.plan_run.specs.TableLaws.{StaysInspected, tables_keep_loops}
 use Rattle.plan_run.specs.declared.stage.Stage.TheVariants as stage
@@ -57,7 +57,7 @@ KeptWithin s past site turn p tables k kept inspecting executing =
 -- this one, and another
 inspects_it : (s : Scene) (past : List Step) (site : ℕ) (turn : LoopTurn) → inspects_at s.checked past site turn ≡ true
     → ((site == site) && inspects_at s.checked past site turn) ≡ true
-inspects_it s past site turn e = ap (λ b. b && inspects_at s.checked past site turn) (same_number site) ∙ e
+inspects_it s past site turn e = ap (λ b. b && inspects_at s.checked past site turn) (equals_itself site) ∙ e
 
 inspects_not : (s : Scene) (past : List Step) (site k : ℕ) (turn : LoopTurn) → site ≢ k
     → ((site == k) && inspects_at s.checked past site turn) ≡ false

@@ -44,10 +44,13 @@ use Rattle.chaos_sched.specs.declared.item.Item.{Item}
 use Rattle.chaos_sched.specs.declared.local_ref.LocalRef.{LocalRef}
 use Rattle.chaos_sched.specs.declared.local_ref.LocalRef.TheVariants.{Here, Ghost}
 use Rattle.chaos_sched.specs.declared.prepared.Prepared.{Prepared}
-use Rattle.plan_tables.specs.Tables.{slots_of, reached, entry_at, HasStamp}
+use Rattle.plan_tables.specs.Tables.{slots_entered, reached, entry_at, HasStamp}
 use Rattle.plan_run.specs.Held.{Kept, KeepsLoop, KeepsLatest, IsInspected, was_moved}
-use Rattle.plan_run.specs.OwnerLaws.{is_quiet, quiet_moves_none, owners_of-one, same_number}
-use Rattle.plan_run.specs.StandLaws.{zip_weaker}
+use Rattle.plan_run.specs.OwnerLaws.{is_quiet, quiet_moves_none, owners_of-one, equals_itself}
+use Rattle.fd_program.specs.AmongLaws.{zip_weaker}
+use Rattle.fd_program.specs.RecordLaws.{any_true}
+use Rattle.fd_program.specs.RecordLaws.{each_place}
+use Rattle.fd_program.specs.SameLoops.{filter_same}
 
 -- ---- statements
 
@@ -106,7 +109,7 @@ forall_moves_none c past site turn d = omega arith
 just_executed : (c : Checked) (past : List Step) (site : ℕ) (turn : LoopTurn) (k : ℕ) → was_moved c (Forall site turn ∷ past) past k ≡ false
 just_executed c past site turn k =
     moved_same c past past (Forall site turn) k (forall_moves_none c past site turn)
-    ∙ none_any (λ d. not (version_at c past d == version_at c past d)) (λ d. ap not (same_number (version_at c past d)))
+    ∙ none_any (λ d. not (version_at c past d == version_at c past d)) (λ d. ap not (equals_itself (version_at c past d)))
     (decompositions_of c (site_at c.sites k))
 
 -- what is kept, by the latest execution
@@ -157,7 +160,7 @@ other_loops_stay s past site turn k p tables kept other h =
 latest_itself : (past : List Step) (site : ℕ) (turn : LoopTurn) → is_empty_turn turn ≡ false → latest_of (Forall site turn ∷ past) site
     ≡ Some (turn, past)
 latest_itself past site turn some =
-    ap (λ b. if b && not (is_empty_turn turn) then Some (turn, past) else latest_of past site) (same_number site)
+    ap (λ b. if b && not (is_empty_turn turn) then Some (turn, past) else latest_of past site) (equals_itself site)
     ∙ ap (λ b. if not b then Some (turn, past) else latest_of past site) some
 
 -- an execution's own record, and an inspection that fits it
@@ -193,15 +196,6 @@ pub any_later : (a b : Bool) → b ≡ true → (a || b) ≡ true
 any_later true b e = refl
 any_later false b e = e
 
-any_true : {A : Type 0} (q : A → Bool) (xs : List A) (k : ℕ) (x : A) → slice_get xs k ≡ Some x → q x ≡ true → list_any q xs ≡ true
-any_true q [] k x e h = cc
-any_true q (y ∷ ys) zero x e h = let same : y ≡ x = cc in ap (λ b. b || list_any q ys) (ap q same ∙ h)
-any_true q (y ∷ ys) (suc k) x e h = any_later (q y) (list_any q ys) (any_true q ys k x e h)
-
-pub each_place : {A : Type 0} (P : A → Type 0) (xs : List A) → ((k : ℕ) (x : A) → slice_get xs k ≡ Some x → P x) → AllByRecursion P xs
-each_place P [] h = tt
-each_place P (x ∷ xs) h = (h 0 x refl, each_place P xs (λ k y e. h (suc k) y e))
-
 -- none of the numbers that pass has the property
 pub none_in : (q r : ℕ → Bool) (a n d : ℕ) → list_any q (filter r (range_with_len a n)) ≡ false → a ≤ d → d < a + n → r d ≡ true
     → q d ≡ false
@@ -232,7 +226,7 @@ unmoved_owners s before past k known h history unmoved =
     (decomposition_of c.arrays r.array)) references
     (λ j r e. one (decomposition_of c.arrays r.array)
     (any_true (λ (x : Reference). decomposition_of c.arrays x.array == decomposition_of c.arrays r.array) references j r e
-    (same_number (decomposition_of c.arrays r.array))))
+    (equals_itself (decomposition_of c.arrays r.array))))
   where
     c : Checked
     c = s.checked
@@ -261,12 +255,6 @@ unmoved_owners s before past k known h history unmoved =
 all_of : {A : Type 0} (P : A → Type 0) → ((x : A) → P x) → (xs : List A) → AllByRecursion P xs
 all_of P h [] = tt
 all_of P h (x ∷ xs) = (h x, all_of P h xs)
-
-filter_same : {A : Type 0} (P : A → Type 0) (q r : A → Bool) → ((x : A) → P x → q x ≡ r x) → (xs : List A) → AllByRecursion P xs
-    → filter q xs ≡ filter r xs
-filter_same P q r same [] h = refl
-filter_same P q r same (x ∷ xs) h =
-    ap (λ b. cond b (x ∷ filter q xs) (filter q xs)) (same x h.0) ∙ ap (λ ys. cond (r x) (x ∷ ys) ys) (filter_same P q r same xs h.1)
 
 zip_with : {A B : Type 0} (C : A → Type 0) (P Q : A → B → Type 0) → ((x : A) (y : B) → C x → P x y → Q x y) → (xs : List A) (ys : List B)
     → AllByRecursion C xs → AllZip P xs ys → AllZip Q xs ys
@@ -312,7 +300,7 @@ module _ (s : Scene) (site : ℕ) (one other : LoopTurn) (before past : List Ste
   later = store_at s past
 
   abbrev slots : ℕ → ℕ → Option ℕ
-  slots = slots_of g tables
+  slots = slots_entered g tables
 
   abbrev Owned : Use → Type 0
   Owned u = list_at owners (decomposition_of arrays u.array) ≡ list_at others (decomposition_of arrays u.array)
@@ -436,12 +424,12 @@ same_versions : (f g : ℕ → ℕ) (ds : List ℕ) → map (λ d. pos (f d)) ds
 same_versions f g [] e = refl
 same_versions f g (d ∷ ds) e =
     let first : g d ≡ f d = cc in
-    let equal : (g d == f d) ≡ true = ap (λ n. g d == n) (sym first) ∙ same_number (g d) in
+    let equal : (g d == f d) ≡ true = ap (λ n. g d == n) (sym first) ∙ equals_itself (g d) in
     ap (λ b. not b || list_any (λ d. not (g d == f d)) ds) equal ∙ same_versions f g ds (cc)
 
-pub some_and : {A : Type 0} (P Q : A → Type 0) → ((x : A) → P x → Q x) → (o : Option A) → IsSomeAnd o P → IsSomeAnd o Q
-some_and P Q f None h = absurd h
-some_and P Q f (Some x) h = f x h
+pub some_weaker : {A : Type 0} (P Q : A → Type 0) → ((x : A) → P x → Q x) → (o : Option A) → IsSomeAnd o P → IsSomeAnd o Q
+some_weaker P Q f None h = absurd h
+some_weaker P Q f (Some x) h = f x h
 
 pub reused_is_kept : ReusedIsKept
 reused_is_kept s past site turn p tables kept known there history some none h =
@@ -469,7 +457,7 @@ reused_is_kept s past site turn p tables kept known there history some none h =
         let same = record_determines s site l.0 turn l.1 past known there before history equal in
         let held = subst (λ b. MatchBool b (x.prepared ≡ None)
         (IsSomeAnd x.prepared (IsInspected (loop_at s l.1 site l.0) (owners_at s l.1) (store_at s l.1) p tables))) unmoved h.1 in
-        let now = some_and (IsInspected (loop_at s l.1 site l.0) (owners_at s l.1) (store_at s l.1) p tables)
+        let now = some_weaker (IsInspected (loop_at s l.1 site l.0) (owners_at s l.1) (store_at s l.1) p tables)
         (IsInspected (loop_at s past site turn) (owners_at s past) (store_at s past) p tables)
         (inspected_later s site l.0 turn l.1 past p tables own same) x.prepared held in (
           now,

@@ -15,6 +15,7 @@ pub mod StandLaws
 pub mod KeptLaws
 pub mod TableLaws
 pub mod WithinLaws
+pub mod VoteLaws
 pub mod CutLaws
 pub mod InspectionLaws
 pub mod PreparedLaws

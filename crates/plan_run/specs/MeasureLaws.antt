@@ -117,7 +117,7 @@ each_one n = let z : n ≡ n * 1 = omega arith in (n, z)
 
 -- ---- what is small in a scene
 
-pub record IsSmall (s : Scene) : Type 0 where
+pub record IsWithinLimits (s : Scene) : Type 0 where
   pub arrays : length s.checked.arrays ≤ 64
   pub layouts : length s.checked.layouts ≤ 128
   pub extents : (array : ℕ) → (array_at s.checked.arrays array).extent ≤ 1048576
@@ -275,7 +275,7 @@ layouts_length : (past : List Step) (a : ℕ) (ls : List LayoutName) → length 
 layouts_length past a [] = refl
 layouts_length past a (l ∷ ls) = ap suc (layouts_length past (a + 1) ls)
 
-print_measures : (s : Scene) (past : List Step) (array p : ℕ) → IsSmall s
+print_measures : (s : Scene) (past : List Step) (array p : ℕ) → IsWithinLimits s
     → AreRows 2 1048576 (length (numbers_at s past (Print array) stage.Print p p))
 print_measures s past array p small =
     let n : ℕ = (array_at s.checked.arrays array).extent in
@@ -283,7 +283,7 @@ print_measures s past array p small =
     rows_are 2 1048576 (print_row (store_at s past) array) (λ g. refl) (filter keep (up_to n))
     (omega (arith, up_to_le keep n, small.extents array))
 
-loop_measures : (s : Scene) (past : List Step) (site : ℕ) (turn : LoopTurn) (l : LoopPhase) (p q : ℕ) → IsSmall s
+loop_measures : (s : Scene) (past : List Step) (site : ℕ) (turn : LoopTurn) (l : LoopPhase) (p q : ℕ) → IsWithinLimits s
     → IsStepWithin s.checked (Forall site turn)
     → Measures s past (Forall site turn) (stage.InLoop l) p q
 loop_measures s past site turn l p q small work = by l
@@ -366,7 +366,7 @@ none_measure s past step stage p q e = record {
   most = λ free. subst (λ xs. length xs ≤ most_in stage) (sym e) (omega arith);
 }
 
-move_measures : (s : Scene) (past : List Step) (d : ℕ) (form : StepForm) (which : Stage) (p q : ℕ) → IsSmall s
+move_measures : (s : Scene) (past : List Step) (d : ℕ) (form : StepForm) (which : Stage) (p q : ℕ) → IsWithinLimits s
     → Measures s past (Distribute d form) which p q
 move_measures s past d form which p q small = by which
   where
@@ -417,7 +417,7 @@ move_measures s past d form which p q small = by which
     by (stage.Output j) = none_measure s past (Distribute d form) (stage.Output j) p q refl
     by (stage.InLoop l) = none_measure s past (Distribute d form) (stage.InLoop l) p q refl
 
-pub measures : (s : Scene) (past : List Step) (step : Step) (stage : Stage) (p q : ℕ) → IsSmall s → IsStepWithin s.checked step
+pub measures : (s : Scene) (past : List Step) (step : Step) (stage : Stage) (p q : ℕ) → IsWithinLimits s → IsStepWithin s.checked step
     → IsSuited step stage
     → Measures s past step stage p q
 measures s past (Distribute d form) stage p q small work suited = move_measures s past d form stage p q small
@@ -519,7 +519,7 @@ weaker P Q h [] all = tt
 weaker P Q h (x ∷ xs) all = (h x all.0, weaker P Q h xs all.1)
 
 pub scene_is_small : (c : Checked) (nodes : ℕ) (rule : HomeRule) (store : List (List ℤ)) → IsChecked c → FitsStore c.arrays store
-    → IsSmall (scene_of c nodes rule (run_of c store))
+    → IsWithinLimits (scene_of c nodes rule (run_of c store))
 scene_is_small c nodes rule store checked fits =
     let s = scene_of c nodes rule (run_of c store) in
     let arrays : AllByRecursion IsSmallArray c.arrays =
@@ -592,7 +592,7 @@ all_phases c nodes rule past true work =
     all_cut c (length past) (output_phases (length (trace_of c)) past 0 c.outputs) (phases_from c nodes rule [] (trace_of c))
     (all_outputs c (length (trace_of c)) past 0 c.outputs) (all_from c nodes rule [] (trace_of c) work)
 
-are_measured : (s : Scene) (fs : List Phase) → IsSmall s → AllByRecursion (IsPhaseWithin s.checked) fs → AreMeasured s fs
+are_measured : (s : Scene) (fs : List Phase) → IsWithinLimits s → AllByRecursion (IsPhaseWithin s.checked) fs → AreMeasured s fs
 are_measured s [] small all = tt
 are_measured s (f ∷ fs) small all = (
   (λ p q. let m = measures s f.past f.step f.stage p q small all.0.0 all.0.1 in record { groups = m.groups; most = m.most }),

@@ -105,15 +105,15 @@ forall_keeps_owners s past site turn = refl
 
 -- ---- a DISTRIBUTE
 
-listed : (s : Scene) (past : List Step) (layouts : List LayoutName) (a k : ℕ)
+listed_owners : (s : Scene) (past : List Step) (layouts : List LayoutName) (a k : ℕ)
     → list_at (map (λ (d, l). owners_by s l.extent (form_set past d)) (enumerate_from a layouts)) k
     ≡ option_map_or (λ (l : LayoutName). owners_by s l.extent (form_set past (a + k))) (slice_get layouts k) []
-listed s past [] a zero = refl
-listed s past [] a (suc k) = refl
-listed s past (l ∷ layouts) a zero = let at : a ≡ a + zero = omega arith in ap (λ d. owners_by s l.extent (form_set past d)) at
-listed s past (l ∷ layouts) a (suc k) =
+listed_owners s past [] a zero = refl
+listed_owners s past [] a (suc k) = refl
+listed_owners s past (l ∷ layouts) a zero = let at : a ≡ a + zero = omega arith in ap (λ d. owners_by s l.extent (form_set past d)) at
+listed_owners s past (l ∷ layouts) a (suc k) =
     let at : a + 1 + k ≡ a + suc k = omega arith in
-    listed s past layouts (a + 1) k ∙ ap (λ d. option_map_or (λ (l : LayoutName). owners_by s l.extent (form_set past d))
+    listed_owners s past layouts (a + 1) k ∙ ap (λ d. option_map_or (λ (l : LayoutName). owners_by s l.extent (form_set past d))
     (slice_get layouts k) []) at
 
 -- the owners of a decomposition's elements
@@ -122,14 +122,14 @@ pub owners_of-one : (s : Scene) (past : List Step) (d : ℕ)
     (slice_get s.checked.layouts d) []
 owners_of-one s past d =
     let at : 0 + d ≡ d = omega arith in
-    listed s past s.checked.layouts 0 d ∙ ap (λ e. option_map_or (λ (l : LayoutName). owners_by s l.extent (form_set past e))
+    listed_owners s past s.checked.layouts 0 d ∙ ap (λ e. option_map_or (λ (l : LayoutName). owners_by s l.extent (form_set past e))
     (slice_get s.checked.layouts d) []) at
 
-pub same_number : (n : ℕ) → (n == n) ≡ true
-same_number n = grind (arith, nat_tests)
+pub equals_itself : (n : ℕ) → (n == n) ≡ true
+equals_itself n = grind (arith, nat_tests)
 
-pub other_number : (n m : ℕ) → n ≢ m → (n == m) ≡ false
-other_number n m h = grind (arith, nat_tests)
+pub is_unequal : (n m : ℕ) → n ≢ m → (n == m) ≡ false
+is_unequal n m h = grind (arith, nat_tests)
 
 pub there_is : {A : Type 0} (xs : List A) (k : ℕ) → k < length xs → (x : A) × (slice_get xs k ≡ Some x)
 there_is [] k h = absurd (omega (arith, h))
@@ -141,14 +141,14 @@ move_changes_one s past d form = record {
   own = λ less.
       let found = there_is s.checked.layouts d less in
       let set : form_set (Distribute d form ∷ past) d ≡ (form, past) = ap (λ b. if b then (form, past) else form_set past d)
-      (same_number d) in
+      (equals_itself d) in
       owners_of-one s (Distribute d form ∷ past) d
       ∙ ap (λ f. option_map_or (λ (l : LayoutName). owners_by s l.extent f) (slice_get s.checked.layouts d) []) set
       ∙ ap (λ o. option_map_or (λ (l : LayoutName). owners_by s l.extent (form, past)) o []) found.1
       ∙ sym (ap (λ o. owners_by s (option_map_or (λ (l : LayoutName). l.extent) o 0) (form, past)) found.1);
   others = λ e other.
       let set : form_set (Distribute d form ∷ past) e ≡ form_set past e = ap (λ b. if b then (form, past) else form_set past e)
-      (other_number d e other) in
+      (is_unequal d e other) in
       owners_of-one s (Distribute d form ∷ past) e
       ∙ ap (λ f. option_map_or (λ (l : LayoutName). owners_by s l.extent f) (slice_get s.checked.layouts e) []) set
       ∙ sym (owners_of-one s past e);

@@ -284,8 +284,8 @@ letters_in nodes (stage.Output j) = nodes - 1
 letters_in nodes _ = nodes * (nodes - 1)
 
 -- how many actions: two for each letter, and one work of each node
-abbrev pub moves_in : ℕ → List Phase → ℕ
-moves_in nodes phases = sum_by (λ (f : Phase). 2 * letters_in nodes f.stage + nodes) phases
+abbrev pub moves_in_phases : ℕ → List Phase → ℕ
+moves_in_phases nodes phases = sum_by (λ (f : Phase). 2 * letters_in nodes f.stage + nodes) phases
 
-abbrev pub moves_of : Checked → ℕ → HomeRule → List (List ℤ) → ℕ
-moves_of c nodes rule store = moves_in nodes (phases_of c nodes rule (run_of c store))
+abbrev pub run_moves : Checked → ℕ → HomeRule → List (List ℤ) → ℕ
+run_moves c nodes rule store = moves_in_phases nodes (phases_of c nodes rule (run_of c store))

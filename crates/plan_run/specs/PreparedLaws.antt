@@ -17,7 +17,7 @@ use Rattle.fd_program.specs.declared.site.Site.{Site}
 use Rattle.fd_program.specs.declared.trace.LoopTurn.{LoopTurn}
 use Rattle.fd_program.specs.declared.trace.Step.{Step}
 use Rattle.plan_run.specs.InspectionLaws.{OthersStayInspected}
-use Rattle.plan_run.specs.KeptLaws.{each_place}
+use Rattle.fd_program.specs.RecordLaws.{each_place}
 use Rattle.plan_run.specs.OwnerLaws.{there_is}
 use Rattle.plan_run.specs.TableLaws.{StaysInspected, stamps_keep_inspections, no_slot}
 

@@ -6,6 +6,7 @@ use Rattle.std.proofs.lemmas.Bool.Decides.{nat_tests}
 use Rattle.chaos_letter.specs.declared.letter.Letter.{Letter}
 use Rattle.chaos_letter.specs.declared.wanted.Wanted.{Wanted}
 use Rattle.chaos_letter.specs.Fits.{Fits}
+use Rattle.bsp_core.specs.Resting.{rest_meets}
 use Rattle.bsp_core.specs.Views.{Meets, Serves, for_node}
 use Rattle.fd_program.specs.Layouts.{Scene}
 use Rattle.fd_program.specs.Reports.{completed_of}
@@ -197,16 +198,7 @@ measured_drop s (suc t) (f ∷ fs) h = measured_drop s t fs h.1
 -- ---- the rows
 
 pub meets_left : (s : Scene) (phases : List Phase) → AreMeasured s phases → Falls phases → Meets s.nodes (face_left s phases)
-meets_left s [] h d = record {
-  me = λ p l. refl;
-  count = λ p l. refl;
-  left = λ p l. refl;
-  got = λ p l. refl;
-  out = λ p l. tt;
-  due = λ p l. tt;
-  serves = λ p q lp lq. tt;
-  done = λ p l z. (refl, refl);
-}
+meets_left s [] h d = rest_meets s.nodes
 meets_left s (f ∷ rest) h d = record {
   me = λ p l. refl;
   count = λ p l. refl;

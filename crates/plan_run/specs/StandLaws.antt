@@ -31,10 +31,11 @@ use Rattle.fd_program.specs.declared.count.SiteCount.{SiteCount}
 use Rattle.fd_program.specs.declared.trace.LoopTurn.{LoopTurn}
 use Rattle.fd_program.specs.declared.trace.Step.{Step}
 use Rattle.fd_program.specs.declared.trace.Step.TheVariants.{Distribute, Print, Forall}
-use Rattle.plan_run.specs.Held.{Held, place_in, HasPage, HasPlaces, entry_at, elements_of, Stands}
-use Rattle.plan_run.specs.OwnerLaws.{is_quiet, quiet_moves_none, quiet_keeps_owners, quiet_keeps_store, move_changes_one, same_number}
-use Rattle.plan_run.specs.OwnerLaws.{other_number}
+use Rattle.plan_run.specs.Held.{Held, place_in, HasPage, HasPlaces, entry_at, elements_held, Stands}
+use Rattle.plan_run.specs.OwnerLaws.{is_quiet, quiet_moves_none, quiet_keeps_owners, quiet_keeps_store, move_changes_one, equals_itself}
+use Rattle.plan_run.specs.OwnerLaws.{is_unequal}
 use Rattle.plan_run.specs.StepLaws.{same_count}
+use Rattle.fd_program.specs.AmongLaws.{zip_weaker}
 
 -- ---- statements
 
@@ -45,8 +46,8 @@ QuietStands =
     → is_quiet s.checked past step ≡ true
     → Stands s past p v → Stands s (step ∷ past) p v
 
-abbrev pub count_in : List SiteCount → ℕ → SiteCount
-count_in counts k = unwrap_or (slice_get counts k) no_count
+abbrev pub counted_at : List SiteCount → ℕ → SiteCount
+counted_at counts k = unwrap_or (slice_get counts k) no_count
 
 -- what an execution of a FORALL, after these steps, counts on p
 abbrev pub counted_by : Scene → List Step → ℕ → LoopTurn → ℕ → SiteCount
@@ -60,7 +61,7 @@ pub record EndsLoop (s : Scene) (past : List Step) (site : ℕ) (turn : LoopTurn
   pub elements : w.elements ≡ v.elements
   pub records : Keeps s.checked (Forall site turn ∷ past) w.records
   pub pages : w.pages ≡ v.pages
-  pub counts : w.counts ≡ slice_set v.counts site (plus_count (count_in v.counts site) (counted_by s past site turn p))
+  pub counts : w.counts ≡ slice_set v.counts site (plus_count (counted_at v.counts site) (counted_by s past site turn p))
   pub tables : w.tables ≡ v.tables
 
 abbrev pub LoopStands : Type 0
@@ -78,7 +79,7 @@ pub record IsDropped (d : ℕ) (before after : List Stamps) : Type 0 where
 -- and no ghost kept in its table.
 pub record EndsMove (s : Scene) (past : List Step) (d : ℕ) (form : StepForm) (p : ℕ) (page : Option Pages) (v w : Held) : Type 0 where
   pub parts : w.parts ≡ parts_of s.checked.arrays (owners_at s (Distribute d form ∷ past)) (store_at s past) p
-  pub elements : w.elements ≡ elements_of (owners_at s (Distribute d form ∷ past)) p
+  pub elements : w.elements ≡ elements_held (owners_at s (Distribute d form ∷ past)) p
   pub records : Keeps s.checked (Distribute d form ∷ past) w.records
   pub pages : w.pages ≡ slice_set v.pages d page
   pub covers : HasPage s.nodes p form (list_at (owners_at s (Distribute d form ∷ past)) d) page
@@ -94,13 +95,13 @@ MoveStands =
 -- ---- forms over a repeat
 
 -- the form is the same, and so is the change number of its map
-set_again : (c : Checked) (past : List Step) (old : StepForm) (before : List Step) (new : StepForm)
+set_again_is : (c : Checked) (past : List Step) (old : StepForm) (before : List Step) (new : StepForm)
     → is_set_again c past (old, before) new ≡ true
     → (new ≡ old) × (change_set c (new, past) ≡ change_set c (old, before))
-set_again c past (Regular old) before (Regular new) e = (sym (ap (λ shape. Regular shape) (same_shape_is old new e)), refl)
-set_again c past (Regular old) before (Map new) e = cc
-set_again c past (Map old) before (Regular new) e = cc
-set_again c past (Map old) before (Map new) e =
+set_again_is c past (Regular old) before (Regular new) e = (sym (ap (λ shape. Regular shape) (same_shape_is old new e)), refl)
+set_again_is c past (Regular old) before (Map new) e = cc
+set_again_is c past (Map old) before (Regular new) e = cc
+set_again_is c past (Map old) before (Map new) e =
     let both = both_parts (old == new) (change_at c past new == change_at c before new) e in
     let same : old ≡ new = eqb-true old new both.0 in
     let number : change_at c past new ≡ change_at c before new = eqb-true (change_at c past new) (change_at c before new) both.1 in
@@ -124,7 +125,7 @@ quiet_form c past (Distribute at form) d e = by (at == d) refl
         × (change_set c (if b then (form, past) else form_set past d) ≡ change_set c (form_set past d))
     by true here =
         let same : at ≡ d = eqb-true at d here in
-        set_again c past (form_set past d).0 (form_set past d).1 form (subst (λ n. is_repeat c past n form ≡ true) same e)
+        set_again_is c past (form_set past d).0 (form_set past d).1 form (subst (λ n. is_repeat c past n form ≡ true) same e)
     by false here = (refl, refl)
 quiet_form c past (Print array) d e = (refl, refl)
 quiet_form c past (Forall site turn) d e = (refl, refl)
@@ -166,13 +167,6 @@ quiet_keeps c past step v e h = record {
 
 -- ---- lists by number
 
-pub zip_weaker : {A B : Type 0} (P Q : A → B → Type 0) → ((x : A) (y : B) → P x y → Q x y) → (xs : List A) (ys : List B) → AllZip P xs ys
-    → AllZip Q xs ys
-zip_weaker P Q f [] [] h = tt
-zip_weaker P Q f [] (y ∷ ys) h = absurd h
-zip_weaker P Q f (x ∷ xs) [] h = absurd h
-zip_weaker P Q f (x ∷ xs) (y ∷ ys) h = (f x y h.0, zip_weaker P Q f xs ys h.1)
-
 -- one is replaced, and the others have what they had
 pub zip_set : {B : Type 0} (P Q : ℕ → B → Type 0) (a n k : ℕ) (new : B) (ys : List B) → Q (a + k) new
     → ((d : ℕ) (y : B) → a + k ≢ d → P d y → Q d y) → AllZip P (range_with_len a n) ys → AllZip Q (range_with_len a n) (slice_set ys k new)
@@ -208,7 +202,7 @@ quiet_stands s past step p v known history quiet h =
       parts = h.parts
           ∙ ap (λ o. parts_of s.checked.arrays o (store_at s past) p) (sym owners)
           ∙ ap (λ x. parts_of s.checked.arrays (owners_at s (step ∷ past)) x p) (sym store);
-      elements = h.elements ∙ ap (λ o. elements_of o p) (sym owners);
+      elements = h.elements ∙ ap (λ o. elements_held o p) (sym owners);
       records = quiet_keeps s.checked past step v quiet h.records;
       pages = zip_weaker (λ d page. HasPage s.nodes p (form_at past d) (list_at (owners_at s past) d) page)
           (λ d page. HasPage s.nodes p (form_at (step ∷ past) d) (list_at (owners_at s (step ∷ past)) d) page)
@@ -227,14 +221,14 @@ quiet_stands s past step p v known history quiet h =
 more_counted : (s : Scene) (past : List Step) (site : ℕ) (turn : LoopTurn) (p : ℕ) (counts : List SiteCount)
     → site < length s.checked.sites → is_empty_turn turn ≡ false
     → counts ≡ map (count_at s past p) (below (length s.checked.sites))
-    → slice_set counts site (plus_count (count_in counts site) (counted_by s past site turn p))
+    → slice_set counts site (plus_count (counted_at counts site) (counted_by s past site turn p))
     ≡ map (count_at s (Forall site turn ∷ past) p) (below (length s.checked.sites))
 more_counted s past site turn p counts less some e =
     let n = length s.checked.sites in
-    let before : count_in counts site ≡ count_at s past p site
-    = ap (λ l. count_in l site) e ∙ ap (λ (o : Option SiteCount). unwrap_or o no_count) (get_below (count_at s past p) n site less) in
+    let before : counted_at counts site ≡ count_at s past p site
+    = ap (λ l. counted_at l site) e ∙ ap (λ (o : Option SiteCount). unwrap_or o no_count) (get_below (count_at s past p) n site less) in
     let new = plus_count (count_at s past p site) (counted_by s past site turn p) in
-    ap (λ l. slice_set l site (plus_count (count_in counts site) (counted_by s past site turn p))) e
+    ap (λ l. slice_set l site (plus_count (counted_at counts site) (counted_by s past site turn p))) e
     ∙ ap (λ x. slice_set (map (count_at s past p) (below n)) site (plus_count x (counted_by s past site turn p))) before
     ∙ set_below (count_at s past p) new n site
     ∙ same_map (λ k. if site == k then new else count_at s past p k) (count_at s (Forall site turn ∷ past) p) 0 n (λ k low high. one k)
@@ -267,7 +261,7 @@ loop_stands s past site turn p v w history there some h end = record {
 pub move_stands : MoveStands
 move_stands s past d form p page v w history h end =
     let after = Distribute d form ∷ past in
-    let own : form_at after d ≡ form = ap (λ b. (if b then (form, past) else form_set past d).0) (same_number d) in
+    let own : form_at after d ≡ form = ap (λ b. (if b then (form, past) else form_set past d).0) (equals_itself d) in
     let n : 0 + d ≡ d = omega arith in
     record {
       parts = end.parts ∙ ap (λ store. parts_of s.checked.arrays (owners_at s after) store p) (sym history.0);
@@ -283,7 +277,7 @@ move_stands s past d form p page v w history h end =
           (λ e page other x.
           let differ : d ≢ e = λ same. other (n ∙ same) in
           let still : form_at after e ≡ form_at past e = ap (λ b. (if b then (form, past) else form_set past e).0)
-          (other_number d e differ) in
+          (is_unequal d e differ) in
           subst (λ f. HasPage s.nodes p f (list_at (owners_at s after) e) page) (sym still)
           (subst (λ o. HasPage s.nodes p (form_at past e) o page) (sym ((move_changes_one s past d form).others e differ)) x)) h.pages);
       counts = end.counts ∙ h.counts

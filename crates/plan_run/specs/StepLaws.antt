@@ -24,7 +24,7 @@ use Rattle.fd_program.specs.declared.trace.Step.{Step}
 use Rattle.fd_program.specs.declared.trace.Step.TheVariants.{Print}
 use Rattle.chaos_sched.specs.declared.prepared.Prepared.{Prepared}
 use Rattle.plan_run.specs.Held.{Held, no_table, entry_at, Kept, Stands, HasPage, KeepsLoop, KeepsInspection, IsInspected, was_moved}
-use Rattle.plan_run.specs.Held.{elements_of, no_hand}
+use Rattle.plan_run.specs.Held.{elements_held, no_hand}
 
 -- ---- the start
 
@@ -32,7 +32,7 @@ use Rattle.plan_run.specs.Held.{elements_of, no_hand}
 abbrev pub at_start : Scene → ℕ → Held
 at_start s p = record {
   parts = parts_of s.checked.arrays (owners_at s []) (store_at s []) p;
-  elements = elements_of (owners_at s []) p;
+  elements = elements_held (owners_at s []) p;
   records = no_records (length s.checked.arrays) (length s.checked.layouts);
   pages = map (λ d. None) (below (length s.checked.layouts));
   kept = map (λ k. None) (below (length s.checked.sites));

@@ -32,11 +32,12 @@ use Rattle.chaos_sched.specs.declared.item.Item.{Item}
 use Rattle.chaos_sched.specs.declared.local_ref.LocalRef.{LocalRef}
 use Rattle.chaos_sched.specs.declared.local_ref.LocalRef.TheVariants.{Here, Ghost}
 use Rattle.chaos_sched.specs.declared.prepared.Prepared.{Prepared}
-use Rattle.plan_tables.specs.Tables.{slots_of, slot_by, stamps_of, entry_at, HasStamp}
+use Rattle.plan_tables.specs.Tables.{slots_entered, slot_by, stamps_of, entry_at, HasStamp}
 use Rattle.plan_run.specs.Held.{Kept, KeepsLoop, IsInspected, was_moved}
-use Rattle.plan_run.specs.KeptLaws.{KeptBy, any_first, any_later, none_in, some_and, differ}
-use Rattle.plan_run.specs.OwnerLaws.{same_number}
-use Rattle.plan_run.specs.StandLaws.{IsDropped, zip_weaker}
+use Rattle.plan_run.specs.KeptLaws.{KeptBy, any_first, any_later, none_in, some_weaker, differ}
+use Rattle.plan_run.specs.OwnerLaws.{equals_itself}
+use Rattle.plan_run.specs.StandLaws.{IsDropped}
+use Rattle.fd_program.specs.AmongLaws.{zip_weaker}
 
 -- ---- statements
 
@@ -48,7 +49,7 @@ StaysInspected f before after =
 
 -- The stamps of a loop stay: an element that has a slot keeps it, and each stamp stands just where it stood.
 pub record KeepsStamps (f : LoopFacts) (before after : List Stamps) : Type 0 where
-  pub slots : (d e slot : ℕ) → slots_of f before d e ≡ Some slot → slots_of f after d e ≡ Some slot
+  pub slots : (d e slot : ℕ) → slots_entered f before d e ≡ Some slot → slots_entered f after d e ≡ Some slot
   pub stamps : (d e stamp : ℕ) → Among stamp (stamps_of f d) → HasStamp (entry_at after d e) stamp ↔ HasStamp (entry_at before d e) stamp
 
 -- then an inspection of it stays right
@@ -85,16 +86,16 @@ MoveKeepsLoops =
 
 module _ (f : LoopFacts) (owners : List (List ℕ)) (store : List (List ℤ)) (p : ℕ) (before after : List Stamps)
     (still : KeepsStamps f before after) where
-  stands : (u : Use) (l : LocalRef) → StandsFor f owners (slots_of f before) p u l → StandsFor f owners (slots_of f after) p u l
+  stands : (u : Use) (l : LocalRef) → StandsFor f owners (slots_entered f before) p u l → StandsFor f owners (slots_entered f after) p u l
   stands u (Here local) h = h
   stands u (Ghost slot) h = (h.0, still.slots (decomposition_of f.arrays u.array) (stands_at f.arrays u.array u.subscript) slot h.1)
 
-  others : (cells : ℕ → List Cell) (lists : List (List Item)) → AreItems f.nodes (IsOther f owners (slots_of f before)) cells lists
-      → AreItems f.nodes (IsOther f owners (slots_of f after)) cells lists
+  others : (cells : ℕ → List Cell) (lists : List (List Item)) → AreItems f.nodes (IsOther f owners (slots_entered f before)) cells lists
+      → AreItems f.nodes (IsOther f owners (slots_entered f after)) cells lists
   others cells lists h =
-      zip_weaker (λ q items. AllZip (IsOther f owners (slots_of f before)) (cells q) items)
-      (λ q items. AllZip (IsOther f owners (slots_of f after)) (cells q) items)
-      (λ q items k. zip_weaker (IsOther f owners (slots_of f before)) (IsOther f owners (slots_of f after))
+      zip_weaker (λ q items. AllZip (IsOther f owners (slots_entered f before)) (cells q) items)
+      (λ q items. AllZip (IsOther f owners (slots_entered f after)) (cells q) items)
+      (λ q items k. zip_weaker (IsOther f owners (slots_entered f before)) (IsOther f owners (slots_entered f after))
       (λ x i it. (it.0, still.slots (decomposition_of f.arrays x.array) (stands_at f.arrays x.array (pos x.element)) i.slot it.1))
       (cells q) items k) (below f.nodes) lists h
 
@@ -102,7 +103,7 @@ module _ (f : LoopFacts) (owners : List (List ℕ)) (store : List (List ℤ)) (p
   still_inspected x h = record {
     fits = record {
       iterations = h.fits.iterations;
-      references = zip_weaker (StandsFor f owners (slots_of f before) p) (StandsFor f owners (slots_of f after) p) stands
+      references = zip_weaker (StandsFor f owners (slots_entered f before) p) (StandsFor f owners (slots_entered f after) p) stands
           (kept_uses f store x.iterations) x.references h.fits.references;
       gather_send = h.fits.gather_send;
       gather_fetch = others (λ q. needed_of f owners store p q) x.schedule.gather_fetch h.fits.gather_fetch;
@@ -133,7 +134,7 @@ kept_over s past k p before after (Some x) still (Some l) h = (h.0, by (was_move
         → MatchBool b (x.prepared ≡ None) (IsSomeAnd x.prepared (IsInspected f (owners_at s l.1) (store_at s l.1) p after))
     by true h = h
     by false h =
-        some_and (IsInspected f (owners_at s l.1) (store_at s l.1) p before) (IsInspected f (owners_at s l.1) (store_at s l.1) p after)
+        some_weaker (IsInspected f (owners_at s l.1) (store_at s l.1) p before) (IsInspected f (owners_at s l.1) (store_at s l.1) p after)
         (still l.1 l.0 (owners_at s l.1) (store_at s l.1) p) x.prepared h
 
 pub tables_keep_loops : TablesKeepLoops
@@ -188,7 +189,7 @@ version_grows c before (step ∷ past) d (inr h) = omega (arith, version_grows c
 moved_version : (c : Checked) (past : List Step) (d : ℕ) (form : StepForm) → is_repeat c past d form ≡ false
     → version_at c (Distribute d form ∷ past) d ≡ version_at c past d + 1
 moved_version c past d form e =
-    ap (λ b. version_at c past d + (if b && not (is_repeat c past d form) then 1 else 0)) (same_number d)
+    ap (λ b. version_at c past d + (if b && not (is_repeat c past d form) then 1 else 0)) (equals_itself d)
     ∙ ap (λ b. version_at c past d + (if not b then 1 else 0)) e
 
 other_version : (c : Checked) (past : List Step) (d e : ℕ) (form : StepForm) → (d == e) ≡ false
@@ -259,7 +260,7 @@ move_keeps_loops s past d form k p before after kept there moves dropped h = by 
             let no : (d == d) ≡ false = none_in (λ e. d == e)
             (λ e. list_any (λ (r : Reference). decomposition_of s.checked.arrays r.array == e) (site_at s.checked.sites k).references)
             0 (length s.checked.layouts) d e (omega arith) (omega (arith, there)) f in
-            let yes_it : (d == d) ≡ true = same_number d in
+            let yes_it : (d == d) ≡ true = equals_itself d in
             cc
 
     stays : (l : Option (LoopTurn × List Step)) (kept : Option Kept) → is_named_in s.checked k d ≡ false → KeptBy s past k p after kept l

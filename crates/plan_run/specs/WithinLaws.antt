@@ -25,16 +25,16 @@ use Rattle.plan_loop.specs.declared.loop_phase.LoopPhase.TheVariants as phase
 use Rattle.plan_run.specs.Held.{Held, Kept, HasPage, HasPlaces, Stands, InHand, is_inspecting, is_executing, refused_at, is_stopped}
 use Rattle.plan_run.specs.Held.{KeepsLoop, KeepsInStep, KeepsAtEnd, EachLoop, AtPhase, text_at, text_on, lines_of, inspected_at}
 use Rattle.plan_run.specs.KeptLaws.{other_loops_stay, reused_is_kept, differ}
-use Rattle.plan_run.specs.OwnerLaws.{same_number}
+use Rattle.plan_run.specs.OwnerLaws.{equals_itself}
 use Rattle.plan_run.specs.Phases.{Phase, numbers_at}
-use Rattle.plan_run.specs.StandLaws.{zip_weaker}
+use Rattle.fd_program.specs.AmongLaws.{zip_weaker}
 use Rattle.plan_run.specs.declared.stage.Stage.{Stage}
 use Rattle.plan_run.specs.declared.stage.Stage.TheVariants as stage
 
 -- ---- statements
 
 -- nothing differs but what is in hand, and the list that the node has for itself
-pub record IsSameBut (v w : Held) : Type 0 where
+pub record IsSameBut (v : Held) (w : Held) : Type 0 where
   pub parts : w.parts ≡ v.parts
   pub elements : w.elements ≡ v.elements
   pub records : w.records ≡ v.records
@@ -92,35 +92,17 @@ RefusalStops =
 -- ---- within a step
 
 pub not_refused : (run : Run) (a : Stage) → is_output a ≡ false → refused_at run a ≡ None
-not_refused run (stage.MapPairs array) e = refl
-not_refused run stage.PageCounts e = refl
-not_refused run stage.MovingAsk e = refl
-not_refused run stage.MovingAnswer e = refl
-not_refused run stage.Remap e = refl
-not_refused run stage.Print e = refl
 not_refused run (stage.Output j) e = cc
-not_refused run (stage.InLoop l) e = refl
+not_refused run _ e = refl
 
 pub plain_text : (s : Scene) (run : Run) (past : List Step) (a : Stage) → is_output a ≡ false → text_at s run past a ≡ lines_of s past
-plain_text s run past (stage.MapPairs array) e = refl
-plain_text s run past stage.PageCounts e = refl
-plain_text s run past stage.MovingAsk e = refl
-plain_text s run past stage.MovingAnswer e = refl
-plain_text s run past stage.Remap e = refl
-plain_text s run past stage.Print e = refl
 plain_text s run past (stage.Output j) e = cc
-plain_text s run past (stage.InLoop l) e = refl
+plain_text s run past _ e = refl
 
 pub present_inspected : (s : Scene) (run : Run) (past : List Step) (step : Step) (a : Stage) → is_output a ≡ false
     → inspected_at s run past step a ≡ map (λ n. pos n) (inspecting_of s.checked (step ∷ past))
-present_inspected s run past step (stage.MapPairs array) e = refl
-present_inspected s run past step stage.PageCounts e = refl
-present_inspected s run past step stage.MovingAsk e = refl
-present_inspected s run past step stage.MovingAnswer e = refl
-present_inspected s run past step stage.Remap e = refl
-present_inspected s run past step stage.Print e = refl
 present_inspected s run past step (stage.Output j) e = cc
-present_inspected s run past step (stage.InLoop l) e = refl
+present_inspected s run past step _ e = refl
 
 -- what is kept within a step, by whether it is refused and executing
 abbrev KeepsWith : Scene → List Step → Step → ℕ → List Stamps → ℕ → Option Kept → Option Refused → Bool → Type 0
@@ -191,10 +173,10 @@ loop_ends s run past site turn p tables kept known there history some h =
         → KeepsLoop s (Forall site turn ∷ past) k p tables x
     by k x (inl same) true e held =
         subst (λ b. MatchBool b (KeepsLoop s (Forall site turn ∷ past) k p tables x) (KeepsLoop s past k p tables x))
-        (ap (λ b. b && inspects_at s.checked past site turn) (subst (λ n. (site == n) ≡ true) same (same_number site)) ∙ e) held
+        (ap (λ b. b && inspects_at s.checked past site turn) (subst (λ n. (site == n) ≡ true) same (equals_itself site)) ∙ e) held
     by k x (inl same) false e held =
         let before = subst (λ b. MatchBool b (KeepsLoop s (Forall site turn ∷ past) k p tables x) (KeepsLoop s past k p tables x))
-        (ap (λ b. b && inspects_at s.checked past site turn) (subst (λ n. (site == n) ≡ true) same (same_number site)) ∙ e) held in
+        (ap (λ b. b && inspects_at s.checked past site turn) (subst (λ n. (site == n) ≡ true) same (equals_itself site)) ∙ e) held in
         subst (λ n. KeepsLoop s (Forall site turn ∷ past) n p tables x) same
         (reused_is_kept s past site turn p tables x known there history some e (subst (λ n. KeepsLoop s past n p tables x)
         (sym same) before)).1

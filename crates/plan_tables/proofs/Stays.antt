@@ -16,7 +16,7 @@ use Rattle.plan_tables.specs.Fits.{StandsFor, IsOther, AreItems}
 use Rattle.fd_program.specs.Met.{kept_uses}
 use Rattle.plan_tables.specs.SlotLaws.{slot_is, has_of, of_has}
 use Rattle.plan_tables.specs.Laws.{IsPreparedBeside, GoesOnFitting, StaysEntered}
-use Rattle.plan_tables.specs.Tables.{HasStamp, entry_at, stamps_of, slot_by, slots_of}
+use Rattle.plan_tables.specs.Tables.{HasStamp, entry_at, stamps_of, slot_by, slots_entered}
 use Rattle.chaos_sched.specs.declared.item.Item.{Item}
 use Rattle.chaos_sched.specs.declared.local_ref.LocalRef.{LocalRef}
 use Rattle.chaos_sched.specs.declared.local_ref.LocalRef.TheVariants.{Here, Ghost}
@@ -78,11 +78,11 @@ module _ (f other : LoopFacts) (before after : List Stamps) (beside : IsPrepared
       subst (λ n. n < 128) (sym r.is) (all_among (IsReference f.arrays) f.site.references r.reference
       (recursion_from_All (IsReference f.arrays) f.site.references beside.site.references) r.among).stamp
 
-  slots_stay : (d e slot : ℕ) → slots_of f before d e ≡ Some slot → slots_of f after d e ≡ Some slot
+  slots_stay : (d e slot : ℕ) → slots_entered f before d e ≡ Some slot → slots_entered f after d e ≡ Some slot
   slots_stay d e slot told = by (entry_at before d e) refl told
     where
       further : (h : Held) → entry_at before d e ≡ Some h → (b : Bool) → list_any (has_stamp h.mask) (stamps_of f d) ≡ b
-          → (if b then Some h.slot else None) ≡ Some slot → slots_of f after d e ≡ Some slot
+          → (if b then Some h.slot else None) ≡ Some slot → slots_entered f after d e ≡ Some slot
       further h is false any told = absurd (none-some slot told)
       further h is true any told =
           let s = any_to h.mask (stamps_of f d) any in
@@ -90,7 +90,7 @@ module _ (f other : LoopFacts) (before after : List Stamps) (beside : IsPrepared
           slot_is (stamps_of f d) (entry_at after d e) still.held s.0 still.is s.1 still.has
           ∙ ap Some (still.same_slot ∙ same_Some h.slot slot told)
 
-      by : (o : Option Held) → entry_at before d e ≡ o → slot_by (stamps_of f d) o ≡ Some slot → slots_of f after d e ≡ Some slot
+      by : (o : Option Held) → entry_at before d e ≡ o → slot_by (stamps_of f d) o ≡ Some slot → slots_entered f after d e ≡ Some slot
       by None is told = absurd (none-some slot told)
       by (Some h) is told = further h is (list_any (has_stamp h.mask) (stamps_of f d)) refl told
 
@@ -123,12 +123,12 @@ goes_on_fitting f other owners store p before after kept beside fits =
     let more = slots_stay f other before after beside in
     record {
       iterations = fits.iterations;
-      references = zip_weaker _ _ (stands_still f owners (slots_of f before) (slots_of f after) p more)
+      references = zip_weaker _ _ (stands_still f owners (slots_entered f before) (slots_entered f after) p more)
           (kept_uses f store kept.iterations) kept.references fits.references;
       gather_send = fits.gather_send;
-      gather_fetch = items_still f owners (slots_of f before) (slots_of f after) (λ q. needed_of f owners store p q)
+      gather_fetch = items_still f owners (slots_entered f before) (slots_entered f after) (λ q. needed_of f owners store p q)
           kept.schedule.gather_fetch more fits.gather_fetch;
-      scatter_send = items_still f owners (slots_of f before) (slots_of f after) (λ q. given_of f owners store p q)
+      scatter_send = items_still f owners (slots_entered f before) (slots_entered f after) (λ q. given_of f owners store p q)
           kept.schedule.scatter_send more fits.scatter_send;
       scatter_take = fits.scatter_take;
     }

@@ -16,8 +16,8 @@ use Rattle.chaos_sched.specs.declared.local_ref.LocalRef.TheVariants.{Here, Ghos
 use Rattle.chaos_sched.specs.declared.prepared.Prepared.{Prepared}
 
 -- two elements of a decomposition have no slot in common
-abbrev pub AreApart : (ℕ → ℕ → Option ℕ) → Type 0
-AreApart slots = (d e g slot : ℕ) → slots d e ≡ Some slot → slots d g ≡ Some slot → e ≡ g
+abbrev pub HaveOwnSlots : (ℕ → ℕ → Option ℕ) → Type 0
+HaveOwnSlots slots = (d e g slot : ℕ) → slots d e ≡ Some slot → slots d g ≡ Some slot → e ≡ g
 
 -- each array has a ghost for each slot of its decomposition
 abbrev pub HasRoom : LoopFacts → (ℕ → ℕ → Option ℕ) → List (List ℤ) → Type 0

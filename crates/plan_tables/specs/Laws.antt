@@ -5,7 +5,7 @@ use Rattle.chaos_sched.specs.declared.prepared.Prepared.{Prepared}
 use Rattle.fd_program.specs.Checks.{IsSite, HaveOwnStamps}
 use Rattle.fd_program.specs.declared.loop_facts.LoopFacts.{LoopFacts}
 use Rattle.plan_tables.specs.Fits.{Fits}
-use Rattle.plan_tables.specs.Tables.{slots_of, IsEntered, KeepsOtherStamps}
+use Rattle.plan_tables.specs.Tables.{slots_entered, IsEntered, KeepsOtherStamps}
 
 -- another loop of the program, with stamps of its own, changed the tables
 pub record IsPreparedBeside (f other : LoopFacts) (before after : List Stamps) : Type 0 where
@@ -19,7 +19,7 @@ abbrev pub GoesOnFitting : Type 0
 GoesOnFitting =
     (f other : LoopFacts) (owners : List (List ℕ)) (store : List (List ℤ)) (p : ℕ) (before after : List Stamps) (kept : Prepared)
     → IsPreparedBeside f other before after
-    → Fits f owners store (slots_of f before) p kept → Fits f owners store (slots_of f after) p kept
+    → Fits f owners store (slots_entered f before) p kept → Fits f owners store (slots_entered f after) p kept
 
 -- and the entries with the loop's stamps are still just the elements that its references reach
 abbrev pub StaysEntered : Type 0

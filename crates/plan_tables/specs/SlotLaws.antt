@@ -10,14 +10,14 @@ use Rattle.chaos_hash.specs.declared.held.Held.{Held}
 use Rattle.fd_program.specs.ListLaws.{Among}
 use Rattle.plan_tables.specs.Tables.{HasStamp, slot_by}
 
-pub same_number : (n m : ℕ) → n ≡ m → (n == m) ≡ true
-same_number n m e = elim (eqb_tells n m) [ inl same ↦ same.0 | inr other ↦ absurd (other.1 e) ]
+pub equal_numbers : (n m : ℕ) → n ≡ m → (n == m) ≡ true
+equal_numbers n m e = elim (eqb_tells n m) [ inl same ↦ same.0 | inr other ↦ absurd (other.1 e) ]
 
-pub other_number : (n m : ℕ) → (n ≡ m → ⊥) → not (n == m) ≡ true
-other_number n m h = elim (eqb_tells n m) [ inl same ↦ absurd (h same.1) | inr other ↦ ap not other.0 ]
+pub unequal_numbers : (n m : ℕ) → (n ≡ m → ⊥) → not (n == m) ≡ true
+unequal_numbers n m h = elim (eqb_tells n m) [ inl same ↦ absurd (h same.1) | inr other ↦ ap not other.0 ]
 
 pub not_number : (n m : ℕ) → not (n == m) ≡ true → n ≡ m → ⊥
-not_number n m e same = by (n == m) (same_number n m same) e
+not_number n m e same = by (n == m) (equal_numbers n m same) e
   where
     by : (b : Bool) → b ≡ true → not b ≡ true → ⊥
     by true h k = true≢false (sym k)
@@ -26,7 +26,7 @@ not_number n m e same = by (n == m) (same_number n m same) e
 any_stamp : (mask : ℕ) (stamps : List ℕ) (stamp : ℕ) → Among stamp stamps → bit_at mask stamp ≡ 1 → list_any (has_stamp mask) stamps ≡ true
 any_stamp mask [] stamp a has = absurd a
 any_stamp mask (s ∷ stamps) stamp (inl e) has = ap (λ b. b || list_any (has_stamp mask) stamps)
-    (same_number (bit_at mask s) 1 (ap (bit_at mask) (sym e) ∙ has))
+    (equal_numbers (bit_at mask s) 1 (ap (bit_at mask) (sym e) ∙ has))
 any_stamp mask (s ∷ stamps) stamp (inr a) has = by (has_stamp mask s) (any_stamp mask stamps stamp a has)
   where
     by : (b : Bool) → list_any (has_stamp mask) stamps ≡ true → (b || list_any (has_stamp mask) stamps) ≡ true

@@ -64,8 +64,8 @@ slot_by stamps None = None
 slot_by stamps (Some h) = if list_any (has_stamp h.mask) stamps then Some h.slot else None
 
 -- the slot of an element whose entry has a stamp of the loop
-abbrev pub slots_of : LoopFacts → List Stamps → ℕ → ℕ → Option ℕ
-slots_of f tables d e = slot_by (stamps_of f d) (entry_at tables d e)
+abbrev pub slots_entered : LoopFacts → List Stamps → ℕ → ℕ → Option ℕ
+slots_entered f tables d e = slot_by (stamps_of f d) (entry_at tables d e)
 
 -- an entry of decomposition d without the stamp of a reference, and without those of several
 abbrev pub cleared_by : LoopFacts → ℕ → Reference → Option Held → Option Held

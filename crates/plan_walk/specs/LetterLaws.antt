@@ -1,11 +1,14 @@
 -- What a node takes in a phase, with its own list put in; the lengths that a receiver knows; and a node's row by what its letters name.
 use Rattle.std.specs.Prelude.{◌≡◌, ◌≢◌, refl, ℕ, zero, suc, ◌+◌, ◌*◌, ◌<◌, ◌≤◌, ℤ, pos, Bool, true, false, not, ◌&&◌, ◌==◌, if◌then◌else◌}
-use Rattle.std.specs.Prelude.{List, [], ◌∷◌, ◌++◌, length, map, filter, flat_map, slice_get, unwrap_or}
+use Rattle.std.specs.Prelude.{List, [], ◌∷◌, length, map, filter, flat_map, slice_get, unwrap_or}
 use Rattle.std.specs.List.{range_with_len}
 use Rattle.std.proofs.Common.{ap, sym, ◌∙◌, arith}
+use Rattle.std.proofs.lemmas.List.{length-map}
+use Rattle.std.proofs.lemmas.List.FromFn.{get_or-map-range_with_len, length-map-range_with_len}
+use Rattle.std.proofs.lemmas.Option.{unwrap_or-slice_get}
 use Rattle.std.proofs.lemmas.Bool.Decides.{nat_tests}
 use Rattle.fd_words.specs.Lists.{list_at}
-use Rattle.bsp_core.specs.Views.{Face, for_node, incoming, ready}
+use Rattle.bsp_core.specs.Views.{Face, ready}
 use Rattle.chaos_dist.specs.Counting.{below}
 use Rattle.chaos_dist.specs.Owners.{owner_in, local_in, counts_on_page}
 use Rattle.chaos_dist.specs.declared.step_form.StepForm.{StepForm}
@@ -158,12 +161,12 @@ FreeIsCounted = (s : Scene) (f : Phase) (p : ℕ) (counts : List ℕ) → is_fre
 
 -- ---- what comes in
 
-abbrev face_with : Scene → Phase → ℕ → List Letter → Face
-face_with s f p got = record { me = p; count = s.nodes; left = f.left; out = []; due = []; got = got }
+abbrev face_taking : Scene → Phase → ℕ → List Letter → Face
+face_taking s f p got = record { me = p; count = s.nodes; left = f.left; out = []; due = []; got = got }
 
 pub letters_come_in : LettersComeIn
 letters_come_in s f rest p less =
-    ap (face_with s f p)
+    ap (face_taking s f p)
     (incoming_picked (face_left s (f ∷ rest)) (wanted_at s f p) (λ q. letter_of s f q p) (λ q. is_sent f.stage q p) p 0 s.nodes
     (λ q l m sent. picked_one (letter_of s f q) (is_sent f.stage q) p 0 s.nodes (omega arith) (omega (arith, less))
     ∙ ap (λ (b : Bool). if b then letter_of s f q p ∷ [] else []) sent))
@@ -180,8 +183,8 @@ for_all_sent stage.MovingAnswer p q e = refl
 for_all_sent stage.Remap p q e = refl
 for_all_sent (stage.InLoop l) p q e = refl
 
-is_other : (q p : ℕ) → q ≢ p → not (q == p) ≡ true
-is_other q p h = grind (arith, nat_tests)
+is_another : (q p : ℕ) → q ≢ p → not (q == p) ≡ true
+is_another q p h = grind (arith, nat_tests)
 
 is_itself : (q p : ℕ) → q ≡ p → not (q == p) ≡ false
 is_itself q p h = grind (arith, nat_tests)
@@ -217,7 +220,7 @@ own_list_is_put_in s f p less all =
     let x : ℕ → List ℤ = λ q. numbers_at s f.past f.step f.stage q p in
     ap (put_in p (x p)) (map_map numbers_of (λ q. letter_of s f q p) (filter (λ q. is_sent f.stage q p) (below s.nodes)))
     ∙ put_back x (λ q. is_sent f.stage q p) p 0 s.nodes p (omega arith) less
-    (for_all_sent f.stage p p all ∙ is_itself p p refl) (λ q other. for_all_sent f.stage p q all ∙ is_other q p other)
+    (for_all_sent f.stage p p all ∙ is_itself p p refl) (λ q other. for_all_sent f.stage p q all ∙ is_another q p other)
 
 if_first : (b : Bool) → (b && (0 == 0)) ≡ b
 if_first true = refl
@@ -238,21 +241,13 @@ first_takes_all s f some =
     let x : ℕ → List ℤ = λ q. numbers_at s f.past f.step f.stage q 0 in
     ap (put_in 0 (x 0)) (map_map numbers_of (λ q. letter_of s f q 0) (filter (λ q. is_sent f.stage q 0) (below s.nodes)))
     ∙ put_back x (λ q. is_sent f.stage q 0) 0 0 s.nodes 0 (omega arith) some
-    (first_sent f.stage 0 ∙ is_itself 0 0 refl) (λ q other. first_sent f.stage q ∙ is_other q 0 other)
+    (first_sent f.stage 0 ∙ is_itself 0 0 refl) (λ q other. first_sent f.stage q ∙ is_another q 0 other)
 
 -- ---- lengths
 
 same_rows : {A : Type 0} (k : ℕ) (g h : A → List ℤ) → ((x : A) → length (g x) ≡ k) → ((x : A) → length (h x) ≡ k) → (xs : List A)
     → length (flat_map g xs) ≡ length (flat_map h xs)
 same_rows k g h e f xs = flat_rows k g e xs ∙ sym (flat_rows k h f xs)
-
-length_map : {A B : Type 0} (f : A → B) (xs : List A) → length (map f xs) ≡ length xs
-length_map f [] = refl
-length_map f (x ∷ xs) = ap suc (length_map f xs)
-
-length_range : (low k : ℕ) → length (range_with_len low k) ≡ k
-length_range low zero = refl
-length_range low (suc k) = ap suc (length_range (low + 1) k)
 
 pub move_answers_are_known : MoveAnswersAreKnown
 move_answers_are_known s past d form p q =
@@ -263,8 +258,8 @@ move_answers_are_known s past d form p q =
 
 pub page_counts_are_known : PageCountsAreKnown
 page_counts_are_known s past d form p q =
-    length_map pos (counts_on_page s.nodes q (list_at (owners_at s (Distribute d form ∷ past)) d))
-    ∙ length_map _ (below s.nodes) ∙ length_range 0 s.nodes
+    length-map (counts_on_page s.nodes q (list_at (owners_at s (Distribute d form ∷ past)) d)) pos
+    ∙ length-map-range_with_len _ 0 s.nodes
 
 pub place_answers_are_known : PlaceAnswersAreKnown
 place_answers_are_known s past site turn asking p q =
@@ -278,7 +273,7 @@ index_values_are_known s past site turn p q =
     let uses = fetched_of f (owners_at s past) (store_at s past) p q in
     omega (
       arith,
-      length_map (read_of (store_at s past)) uses,
+      length-map uses (read_of (store_at s past)),
       flat_rows 2 (index_ask_of f (owners_at s past)) (λ u. refl) uses,
     )
 
@@ -340,22 +335,18 @@ rows_are_made s f rest p lists counts sent counted =
     ap (λ out. row_with s f p out (takes_at s f p)) (sym (letters_are_sent s f p lists sent))
     ∙ ap (row_with s f p (sends_in s f p lists)) (sym (letters_are_taken s f p counts counted))
 
-get_map : {A : Type 0} (x : ℕ → A) (none : A) (q low k : ℕ) → q < k → unwrap_or (slice_get (map x (range_with_len low k)) q) none
-    ≡ x (low + q)
-get_map x none q low zero l = absurd (omega arith)
-get_map x none zero low (suc k) l = let e : low ≡ low + 0 = omega arith in ap x e
-get_map x none (suc q) low (suc k) l = get_map x none q (low + 1) k (omega (arith, l))
-    ∙ ap x (let e : low + 1 + q ≡ low + suc q = omega arith in e)
+-- what is told for each number below n
+pub row_below : {A : Type 0} (x : ℕ → A) (none : A) (n q : ℕ) → q < n → unwrap_or (slice_get (map x (below n)) q) none ≡ x q
+row_below x none n q less =
+    unwrap_or-slice_get (map x (below n)) q none ∙ get_or-map-range_with_len x 0 n q q none less (omega arith)
 
 pub all_lists_are_sent : AllListsAreSent
 all_lists_are_sent s f p lists e q less sent =
-    ap (λ l. list_at l q) e ∙ get_map (λ q. numbers_at s f.past f.step f.stage p q) [] q 0 s.nodes less
-    ∙ ap (λ z. numbers_at s f.past f.step f.stage p z) (let z : 0 + q ≡ q = omega arith in z)
+    ap (λ l. list_at l q) e ∙ row_below (λ q. numbers_at s f.past f.step f.stage p q) [] s.nodes q less
 
 pub all_lengths_are_counted : AllLengthsAreCounted
 all_lengths_are_counted s f p counts e q less sent known =
-    ap (λ l. number_in l q) e ∙ get_map (λ q. length (numbers_at s f.past f.step f.stage q p)) 0 q 0 s.nodes less
-    ∙ ap (λ z. length (numbers_at s f.past f.step f.stage z p)) (let z : 0 + q ≡ q = omega arith in z)
+    ap (λ l. number_in l q) e ∙ row_below (λ q. length (numbers_at s f.past f.step f.stage q p)) 0 s.nodes q less
 
 pub free_is_counted : FreeIsCounted
 free_is_counted s f p counts free q less sent known = absurd (both (is_free f.stage) free known)
@@ -364,17 +355,17 @@ free_is_counted s f p counts free q less sent known = absurd (both (is_free f.st
     both true s t = cc
     both false s t = cc
 
-to_first : (st : Stage) (p q : ℕ) → is_for_all st ≡ false → is_sent st p q ≡ true → q ≡ 0
-to_first stage.Print p q h e = grind (arith, nat_tests)
-to_first (stage.Output j) p q h e = grind (arith, nat_tests)
-to_first (stage.MapPairs array) p q h e = cc
-to_first stage.PageCounts p q h e = cc
-to_first stage.MovingAsk p q h e = cc
-to_first stage.MovingAnswer p q h e = cc
-to_first stage.Remap p q h e = cc
-to_first (stage.InLoop l) p q h e = cc
+only_to_first : (st : Stage) (p q : ℕ) → is_for_all st ≡ false → is_sent st p q ≡ true → q ≡ 0
+only_to_first stage.Print p q h e = grind (arith, nat_tests)
+only_to_first (stage.Output j) p q h e = grind (arith, nat_tests)
+only_to_first (stage.MapPairs array) p q h e = cc
+only_to_first stage.PageCounts p q h e = cc
+only_to_first stage.MovingAsk p q h e = cc
+only_to_first stage.MovingAnswer p q h e = cc
+only_to_first stage.Remap p q h e = cc
+only_to_first (stage.InLoop l) p q h e = cc
 
 pub print_is_sent : PrintIsSent
 print_is_sent s f array p step stage q less sent =
     let rows = print_rows s.checked (owners_at s f.past) (store_at s f.past) array p in
-    ap (list_at (rows ∷ [])) (to_first f.stage p q stage sent) ∙ sym (ap (λ step. numbers_at s f.past step f.stage p q) step)
+    ap (list_at (rows ∷ [])) (only_to_first f.stage p q stage sent) ∙ sym (ap (λ step. numbers_at s f.past step f.stage p q) step)

@@ -34,15 +34,16 @@ use Rattle.plan_run.specs.RowLaws.{length-outputs}
 use Rattle.plan_run.specs.Rows.{RunPlan, face_left, node_row, phases_in, run_in, scene_in}
 use Rattle.plan_run.specs.declared.stage.Stage.{Stage}
 use Rattle.plan_run.specs.declared.stage.Stage.TheVariants as stage
-use Rattle.plan_walk.specs.Places.{StandsBefore, left_from, left_in, output_phase, outputs_left, present_phase, run_left, stages_in}
+use Rattle.plan_walk.specs.Places.{StandsBetween, left_from, left_in, output_phase, outputs_left, present_phase, run_left, stages_in}
 use Rattle.plan_walk.specs.Places.{whole_from, whole_in, whole_left}
 use Rattle.plan_walk.specs.StepEnds.{steps_are_known, steps_end}
+use Rattle.fd_program.specs.RunLaws.{drop_first}
 
 -- ---- statements
 
 -- a step begins with its first stage
-abbrev pub StepBegins : Type 0
-StepBegins =
+abbrev pub LeftBegins : Type 0
+LeftBegins =
     (plan : RunPlan) (past : List Step) (step : Step) (rest : List Step)
     → left_from plan past (step ∷ rest) ≡ left_in plan past step rest (stages_in plan past step)
 
@@ -56,7 +57,7 @@ PhasesFollow =
 abbrev pub VotesPass : Type 0
 VotesPass =
     (plan : RunPlan) (past : List Step) (step : Step) (rest : List Step) (stage : Stage) (stages : List Stage)
-    → StandsBefore plan past (step ∷ rest)
+    → StandsBetween plan past (step ∷ rest)
     → refusal_of plan.checked step (store_at (scene_in plan) past) ≡ None
     → left_in plan past step rest (stage ∷ stages) ≡ present_phase plan past step rest stage stages ∷ left_in plan past step rest stages
 
@@ -73,13 +74,13 @@ pub record StopsAtVote (plan : RunPlan) (past : List Step) (step : Step) (rest :
 abbrev pub VotesStop : Type 0
 VotesStop =
     (plan : RunPlan) (past : List Step) (step : Step) (rest : List Step) (stages : List Stage) (r : Refused)
-    → StandsBefore plan past (step ∷ rest)
+    → StandsBetween plan past (step ∷ rest)
     → refusal_of plan.checked step (store_at (scene_in plan) past) ≡ Some r → StopsAtVote plan past step rest stages r
 
 -- a step that doesn't inspect isn't refused
 abbrev pub OnlyInspectionsStop : Type 0
 OnlyInspectionsStop =
-    (plan : RunPlan) (past : List Step) (step : Step) (rest : List Step) → IsChecked plan.checked → StandsBefore plan past (step ∷ rest)
+    (plan : RunPlan) (past : List Step) (step : Step) (rest : List Step) → IsChecked plan.checked → StandsBetween plan past (step ∷ rest)
     → inspects_step plan.checked past step ≡ false → refusal_of plan.checked step (store_at (scene_in plan) past) ≡ None
 
 -- the votes of the nodes tell whether a FORALL is refused
@@ -100,7 +101,7 @@ pub record StandsBehind (plan : RunPlan) (past : List Step) : Type 0 where
   pub last : (run_in plan).last ≡ store_at (scene_in plan) past
 
 abbrev pub StepsAreOver : Type 0
-StepsAreOver = (plan : RunPlan) (past : List Step) → StandsBefore plan past [] → StandsBehind plan past
+StepsAreOver = (plan : RunPlan) (past : List Step) → StandsBetween plan past [] → StandsBehind plan past
 
 -- one OUTPUT array after another
 abbrev pub OutputsFollow : Type 0
@@ -137,12 +138,12 @@ PhasesAreCounted = (plan : RunPlan) (past : List Step) → CountsPhases plan pas
 
 -- ---- within a step
 
-pub step_begins : StepBegins
-step_begins plan past step rest = refl
+pub left_begins : LeftBegins
+left_begins plan past step rest = refl
 
-and_false : (b : Bool) → (b && false) ≡ false
-and_false true = refl
-and_false false = refl
+and_false_is : (b : Bool) → (b && false) ≡ false
+and_false_is true = refl
+and_false_is false = refl
 
 not_cut : (c : Checked) (f : Phase) (fs : List Phase) (past : List Step) (b : Bool) → (b ≡ true → is_vote_of (length past) f ≡ false)
     → cut_phases c (f ∷ fs) past b ≡ f ∷ cut_phases c fs past b
@@ -156,7 +157,7 @@ phases_follow plan past step rest stage stages e =
     let k = length (completed_of (run_in plan)) in
     not_cut plan.checked (present_phase plan past step rest stage stages) (whole_in plan past step rest stages)
     (completed_of (run_in plan)) (is_some (run_in plan).refused)
-    (λ refused. ap (λ b. (length past == k) && b) e ∙ and_false (length past == k))
+    (λ refused. ap (λ b. (length past == k) && b) e ∙ and_false_is (length past == k))
 
 -- a refused run has executed a step
 some_executed : (c : Checked) (steps : List Step) (store : List (List ℤ)) → is_some (run_from c steps store).refused ≡ true
@@ -173,7 +174,7 @@ length_map f [] = refl
 length_map f (x ∷ xs) = ap suc (length_map f xs)
 
 -- where the run is refused further on, the completed steps are more than those behind
-refused_later : (plan : RunPlan) (past rest : List Step) → StandsBefore plan past rest → is_some (run_in plan).refused ≡ true
+refused_later : (plan : RunPlan) (past rest : List Step) → StandsBetween plan past rest → is_some (run_in plan).refused ≡ true
     → length past ≤ length (completed_of (run_in plan))
 refused_later plan past rest h e =
     let run = run_left plan past rest in
@@ -192,8 +193,8 @@ refused_later plan past rest h e =
     one_less [] = omega arith
     one_less (x ∷ xs) = omega arith
 
-other_number : (n k : ℕ) → n < k → (n == k) ≡ false
-other_number n k h = grind (arith, nat_tests)
+lower_is_unequal : (n k : ℕ) → n < k → (n == k) ≡ false
+lower_is_unequal n k h = grind (arith, nat_tests)
 
 pub votes_pass : VotesPass
 votes_pass plan past step rest stage stages h none =
@@ -201,7 +202,7 @@ votes_pass plan past step rest stage stages h none =
     let ends = steps_end plan past step rest h none in
     not_cut plan.checked (present_phase plan past step rest stage stages) (whole_in plan past step rest stages)
     (completed_of (run_in plan)) (is_some (run_in plan).refused)
-    (λ refused. ap (λ b. b && is_vote stage) (other_number (length past) k (refused_later plan (step ∷ past) rest ends.stands refused)))
+    (λ refused. ap (λ b. b && is_vote stage) (lower_is_unequal (length past) k (refused_later plan (step ∷ past) rest ends.stands refused)))
 
 -- ---- the vote of a refused step
 
@@ -262,12 +263,6 @@ votes_decide plan past site turn some range =
     ∙ ap with_site (sym (votes_tell (loop_at (scene_in plan) past site turn) store some))
 
 -- ---- the phase after a phase
-
-pub drop_first : {A : Type 0} (t : ℕ) (xs : List A) (x : A) (ys : List A) → drop t xs ≡ x ∷ ys → drop (suc t) xs ≡ ys
-drop_first zero [] x ys e = cc
-drop_first zero (z ∷ zs) x ys e = ap (drop 1) e
-drop_first (suc t) [] x ys e = cc
-drop_first (suc t) (z ∷ zs) x ys e = drop_first t zs x ys e
 
 pub rows_follow : RowsFollow
 rows_follow plan t f later e =

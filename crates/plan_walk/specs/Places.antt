@@ -77,7 +77,7 @@ run_left plan past rest = run_from plan.checked rest (store_at (scene_in plan) p
 
 -- The steps are those of the trace, the run has come to `rest`, none of `past` was refused, and the whole run is the completed steps
 -- with what it does from there on.
-pub record StandsBefore (plan : RunPlan) (past rest : List Step) : Type 0 where
+pub record StandsBetween (plan : RunPlan) (past rest : List Step) : Type 0 where
   pub trace : reverse past ++ rest ≡ trace_of plan.checked
   pub reached : IsReached (scene_in plan) past rest
   pub history : IsHistory (scene_in plan) past

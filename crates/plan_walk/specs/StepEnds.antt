@@ -30,13 +30,13 @@ use Rattle.plan_run.specs.OwnerLaws.{is_quiet, quiet_keeps_store}
 use Rattle.plan_run.specs.Phases.{moving_stages, loop_stages, stages_of}
 use Rattle.plan_run.specs.Rows.{RunPlan, run_in, scene_in, phases_in}
 use Rattle.plan_run.specs.declared.stage.Stage.TheVariants as stage
-use Rattle.plan_walk.specs.Places.{StandsBefore, cut_in, left_from, left_in, run_left, stages_in, whole_from, whole_in}
+use Rattle.plan_walk.specs.Places.{StandsBetween, cut_in, left_from, left_in, run_left, stages_in, whole_from, whole_in}
 
 -- ---- statements
 
 -- At the start no step is behind, all phases are left, and the values are those before the run.
 pub record StandsAtStart (plan : RunPlan) : Type 0 where
-  pub stands : StandsBefore plan [] (trace_of plan.checked)
+  pub stands : StandsBetween plan [] (trace_of plan.checked)
   pub left : phases_in plan ≡ left_from plan [] (trace_of plan.checked)
   pub store : store_at (scene_in plan) [] ≡ plan.store
 
@@ -51,31 +51,31 @@ pub record HasSteps (plan : RunPlan) (past rest : List Step) : Type 0 where
   pub before : past ≡ reverse (take (length past) (trace_of plan.checked))
 
 abbrev pub StepsAreKnown : Type 0
-StepsAreKnown = (plan : RunPlan) (past rest : List Step) → StandsBefore plan past rest → HasSteps plan past rest
+StepsAreKnown = (plan : RunPlan) (past rest : List Step) → StandsBetween plan past rest → HasSteps plan past rest
 
 -- A step that isn't refused: once no stage of it is left, the node is before the next.
 pub record EndsStep (plan : RunPlan) (past : List Step) (step : Step) (rest : List Step) : Type 0 where
-  pub stands : StandsBefore plan (step ∷ past) rest
+  pub stands : StandsBetween plan (step ∷ past) rest
   pub left : left_in plan past step rest [] ≡ left_from plan (step ∷ past) rest
   pub store : store_at (scene_in plan) (step ∷ past) ≡ after_step plan.checked step (store_at (scene_in plan) past)
 
 abbrev pub StepsEnd : Type 0
 StepsEnd =
-    (plan : RunPlan) (past : List Step) (step : Step) (rest : List Step) → StandsBefore plan past (step ∷ rest)
+    (plan : RunPlan) (past : List Step) (step : Step) (rest : List Step) → StandsBetween plan past (step ∷ rest)
     → refusal_of plan.checked step (store_at (scene_in plan) past) ≡ None → EndsStep plan past step rest
 
 -- A step without phases changes nothing, is never refused, and the same phases are left behind it.
 pub record PassesQuietly (plan : RunPlan) (past : List Step) (step : Step) (rest : List Step) : Type 0 where
   pub quiet : is_quiet plan.checked past step ≡ true
   pub refusal : refusal_of plan.checked step (store_at (scene_in plan) past) ≡ None
-  pub stands : StandsBefore plan (step ∷ past) rest
+  pub stands : StandsBetween plan (step ∷ past) rest
   pub left : left_from plan past (step ∷ rest) ≡ left_from plan (step ∷ past) rest
   pub whole : whole_from plan past (step ∷ rest) ≡ whole_from plan (step ∷ past) rest
   pub store : store_at (scene_in plan) (step ∷ past) ≡ store_at (scene_in plan) past
 
 abbrev pub QuietStepsPass : Type 0
 QuietStepsPass =
-    (plan : RunPlan) (past : List Step) (step : Step) (rest : List Step) → StandsBefore plan past (step ∷ rest)
+    (plan : RunPlan) (past : List Step) (step : Step) (rest : List Step) → StandsBetween plan past (step ∷ rest)
     → stages_in plan past step ≡ [] → PassesQuietly plan past step rest
 
 -- The stages of a step.
@@ -119,9 +119,9 @@ drop_front : {A : Type 0} (xs ys : List A) → drop (length xs) (xs ++ ys) ≡ y
 drop_front [] ys = refl
 drop_front (x ∷ xs) ys = drop_front xs ys
 
-get_front : {A : Type 0} (xs ys : List A) → slice_get (xs ++ ys) (length xs) ≡ slice_get ys 0
-get_front [] ys = refl
-get_front (x ∷ xs) ys = get_front xs ys
+get_behind : {A : Type 0} (xs ys : List A) → slice_get (xs ++ ys) (length xs) ≡ slice_get ys 0
+get_behind [] ys = refl
+get_behind (x ∷ xs) ys = get_behind xs ys
 
 take_front : {A : Type 0} (xs ys : List A) → take (length xs) (xs ++ ys) ≡ xs
 take_front [] ys = refl
@@ -134,7 +134,7 @@ steps_are_known plan past rest h =
     record {
       left = ap (λ n. drop n trace) (sym size) ∙ ap (drop (length (reverse past))) (sym h.trace) ∙ drop_front (reverse past) rest;
       count = omega (arith, size, length-append (reverse past) rest, ap length h.trace);
-      next = ap (slice_get trace) (sym size) ∙ ap (λ l. slice_get l (length (reverse past))) (sym h.trace) ∙ get_front (reverse past) rest;
+      next = ap (slice_get trace) (sym size) ∙ ap (λ l. slice_get l (length (reverse past))) (sym h.trace) ∙ get_behind (reverse past) rest;
       before = sym (ap (λ n. reverse (take n trace)) (sym size) ∙ ap (λ l. reverse (take (length (reverse past)) l)) (sym h.trace)
           ∙ ap reverse (take_front (reverse past) rest) ∙ reverse-reverse past);
     }

@@ -28,22 +28,23 @@ use Rattle.plan_run.specs.Rows.{RunPlan, face_left, node_row, phases_in, run_in,
 use Rattle.plan_run.specs.declared.stage.Stage.{Stage}
 use Rattle.plan_run.specs.declared.stage.Stage.TheVariants as stage
 use Rattle.plan_walk.specs.LetterLaws.{letters_come_in, letters_for}
-use Rattle.plan_walk.specs.PhaseBegins.{drop_first, only_inspections_stop, phases_follow, rows_follow, steps_are_over, votes_pass}
+use Rattle.plan_walk.specs.PhaseBegins.{only_inspections_stop, phases_follow, rows_follow, steps_are_over, votes_pass}
+use Rattle.fd_program.specs.RunLaws.{drop_first}
 use Rattle.plan_walk.specs.PhaseBegins.{votes_stop}
-use Rattle.plan_walk.specs.Places.{StandsBefore, left_from, left_in, output_phase, outputs_left, present_phase, stages_in, whole_in}
+use Rattle.plan_walk.specs.Places.{StandsBetween, left_from, left_in, output_phase, outputs_left, present_phase, stages_in, whole_in}
 use Rattle.plan_walk.specs.StepEnds.{quiet_steps_pass, run_starts, steps_end}
 
 -- ---- places
 
 -- phase t is the first of these steps, or of the OUTPUT arrays where no step is left
 pub record IsBeforeStep (plan : RunPlan) (t : ℕ) (past rest : List Step) : Type 0 where
-  pub stands : StandsBefore plan past rest
+  pub stands : StandsBetween plan past rest
   pub left : drop t (phases_in plan) ≡ left_from plan past rest
 
 -- phase t is this stage of a step, with the stages `behind` and those that are left; where a vote is behind, the step isn't refused
 pub record IsInStep (plan : RunPlan) (t : ℕ) (past : List Step) (step : Step) (rest : List Step) (behind : List Stage) (present : Stage)
     (stages : List Stage) : Type 0 where
-  pub stands : StandsBefore plan past (step ∷ rest)
+  pub stands : StandsBetween plan past (step ∷ rest)
   pub all : behind ++ present ∷ stages ≡ stages_in plan past step
   pub left : drop t (phases_in plan) ≡ left_in plan past step rest (present ∷ stages)
   pub passed : list_any is_vote behind ≡ true → refusal_of plan.checked step (store_at (scene_in plan) past) ≡ None
@@ -72,7 +73,7 @@ pub record IsPhase (plan : RunPlan) (t : ℕ) (f : Phase) : Type 0 where
       → AtLeft (scene_in plan) (run_in plan) (drop t (phases_in plan)) p v
 
 -- no phase t: the run is over
-pub record IsOver (plan : RunPlan) (t : ℕ) (past : List Step) : Type 0 where
+pub record HasWalked (plan : RunPlan) (t : ℕ) (past : List Step) : Type 0 where
   pub row : (p : ℕ) → node_row plan t p ≡ face_left (scene_in plan) [] p
   pub held : (p : ℕ) (v : Held) → AtLeft (scene_in plan) (run_in plan) (drop t (phases_in plan)) p v
       → AtEnd (scene_in plan) (run_in plan) past p v
@@ -162,7 +163,7 @@ OutputFollows =
     → IsBeforeOutputs plan (t + 1) past (j + 1) os
 
 abbrev pub RunIsOver : Type 0
-RunIsOver = (plan : RunPlan) (t : ℕ) (past : List Step) (j : ℕ) → IsBeforeOutputs plan t past j [] → IsOver plan t past
+RunIsOver = (plan : RunPlan) (t : ℕ) (past : List Step) (j : ℕ) → IsBeforeOutputs plan t past j [] → HasWalked plan t past
 
 -- ---- between the steps
 
@@ -266,40 +267,40 @@ any_right (x ∷ xs) ys e = by (is_vote (stage.InLoop x)) (any_right xs ys e)
     by true e = refl
     by false e = e
 
-inspection_votes : (f : LoopFacts) → list_any is_vote (loop_stages f true) ≡ true
-inspection_votes f =
+any_inspection_votes : (f : LoopFacts) → list_any is_vote (loop_stages f true) ≡ true
+any_inspection_votes f =
     any_left (phases_to_vote f ++ phases_from_vote f) executor_phases
     (any_left (phases_to_vote f) (phases_from_vote f) (any_right (asking_phases f Indexes ++ fetching_phases f) (phase.Vote ∷ []) refl))
 
 -- a step that inspects has a vote
-inspecting_votes : (c : Checked) (nodes : ℕ) (rule : HomeRule) (past : List Step) (step : Step) → inspects_step c past step ≡ true
+any_inspecting_votes : (c : Checked) (nodes : ℕ) (rule : HomeRule) (past : List Step) (step : Step) → inspects_step c past step ≡ true
     → list_any is_vote (stages_of c nodes rule past step) ≡ true
-inspecting_votes c nodes rule past (Distribute d form) e = cc
-inspecting_votes c nodes rule past (Print array) e = cc
-inspecting_votes c nodes rule past (Forall site turn) e =
+any_inspecting_votes c nodes rule past (Distribute d form) e = cc
+any_inspecting_votes c nodes rule past (Print array) e = cc
+any_inspecting_votes c nodes rule past (Forall site turn) e =
     let f = facts_at c nodes rule past site turn in
     ap (λ b. list_any is_vote (if b then [] else loop_stages f (inspects_at c past site turn))) (some_range (is_empty_turn turn) _ e)
-    ∙ ap (λ b. list_any is_vote (loop_stages f b)) e ∙ inspection_votes f
+    ∙ ap (λ b. list_any is_vote (loop_stages f b)) e ∙ any_inspection_votes f
   where
     some_range : (a b : Bool) → (not a && b) ≡ true → a ≡ false
     some_range false b e = refl
     some_range true b e = cc
 
-not_refused : (plan : RunPlan) (t : ℕ) (past : List Step) (step : Step) (rest : List Step) (behind : List Stage) (present : Stage)
+step_not_refused : (plan : RunPlan) (t : ℕ) (past : List Step) (step : Step) (rest : List Step) (behind : List Stage) (present : Stage)
     → IsChecked plan.checked
     → IsInStep plan t past step rest behind present [] → is_vote present ≡ false
     → refusal_of plan.checked step (store_at (scene_in plan) past) ≡ None
-not_refused plan t past step rest behind present known h e = by (inspects_step plan.checked past step) refl
+step_not_refused plan t past step rest behind present known h e = by (inspects_step plan.checked past step) refl
   where
     by : (b : Bool) → inspects_step plan.checked past step ≡ b → refusal_of plan.checked step (store_at (scene_in plan) past) ≡ None
     by false i = only_inspections_stop plan past step rest known h.stands i
     by true i =
         h.passed
-        (sym (any_push behind present e) ∙ ap (list_any is_vote) h.all ∙ inspecting_votes plan.checked plan.nodes plan.rule past step i)
+        (sym (any_push behind present e) ∙ ap (list_any is_vote) h.all ∙ any_inspecting_votes plan.checked plan.nodes plan.rule past step i)
 
 pub step_follows : StepFollows
 step_follows plan t past step rest behind present known h e =
-    let none = not_refused plan t past step rest behind present known h e in
+    let none = step_not_refused plan t past step rest behind present known h e in
     let ends = steps_end plan past step rest h.stands none in
     record {
       next = record {

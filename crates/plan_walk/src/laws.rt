@@ -4,7 +4,7 @@ ghost use Rattle.plan_walk.specs.LetterLaws.{IndexValuesAreKnown, LettersAreSent
 ghost use Rattle.plan_walk.specs.LetterLaws.{OwnListIsPutIn, PageCountsAreKnown, PlaceAnswersAreKnown, PrintIsSent, RowsAreMade};
 ghost use Rattle.plan_walk.specs.LetterLaws.{ScattersAreKnown};
 ghost use Rattle.plan_walk.specs.PhaseBegins.{OnlyInspectionsStop, OutputsAreCounted, OutputsFollow, PhasesAreCounted, PhasesFollow};
-ghost use Rattle.plan_walk.specs.PhaseBegins.{RowsFollow, StepBegins, StepsAreOver, VotesDecide, VotesPass, VotesStop};
+ghost use Rattle.plan_walk.specs.PhaseBegins.{RowsFollow, LeftBegins, StepsAreOver, VotesDecide, VotesPass, VotesStop};
 ghost use Rattle.plan_walk.specs.StepEnds.{QuietStepsPass, RunStarts, StagesAreKnown, StepsAreKnown, StepsEnd};
 ghost use Rattle.plan_walk.specs.Walking.{OutputFollows, OutputIsPhase, OutputsFollowSteps, OutputsFollowVote, QuietIsPassed, RunIsOver};
 ghost use Rattle.plan_walk.specs.Walking.{StageFollows, StageFollowsVote, StageIsPhase, StartIsBeforeStep, StepFollows, StepIsEntered};
@@ -30,7 +30,7 @@ pub fn quiet_steps_pass()
 /// A step begins with its first stage; from then on one phase of it follows another, also behind a vote
 /// where the step isn't refused.
 pub fn phases_begin()
-    ensures steps { StepBegins }
+    ensures steps { LeftBegins }
     ensures others { PhasesFollow }
     ensures votes { VotesPass }
 {}

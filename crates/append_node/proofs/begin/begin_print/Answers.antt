@@ -6,6 +6,7 @@ use Rattle.bsp_desk.specs.Picks.{picked}
 use Rattle.bsp_desk.specs.Ways.{sends}
 use Rattle.bsp_desk.specs.declared.way.Way.TheVariants.{ToFirst}
 use Rattle.append_node.specs.Telling.{none_first, print_told}
+use Rattle.append_node.proofs.Desks.{can_begin}
 use Rattle.append_node.proofs.Firsts.{first_is, first_not}
 use Rattle.append_node.proofs.begin.begin_print.Goals as goal
 use Rattle.append_node.proofs.begin.begin_print.Goals.{then-seat-eq0, else-seat-eq0}
@@ -18,14 +19,9 @@ returns c =
     let out : c.in_ok-phase.phase.out.items ≡ picked (λ q. letter) (λ q. sends ToFirst me q) 0 count =
     c.in_ok-phase.ensures.out ∙ c.in_ok-out.ensures.is in
     record {
-      can = record {
-        left = c.in_ok-phase.ensures.left;
-        got = c.in_ok-phase.ensures.got;
-        room = c.in_ok-phase.ensures.room;
-        out_up = subst (λ (z : List (ℕ × Letter)). Ascends me count 0 (nodes_in z)) (sym c.in_ok-phase.ensures.out) c.in_ok-out.ensures.up;
-        due_up = subst (λ (z : List (ℕ × Wanted)). Ascends me count 0 (nodes_in z)) (sym c.in_ok-phase.ensures.due) c.in_ok-due.ensures.up;
-        next_up = subst (λ (z : List (ℕ × Letter)). Ascends me count 0 (nodes_in z)) (sym c.new.ensures.items) tt;
-      };
+      can = can_begin c.args.seat _ _ _ _ c.in_ok-phase.ensures.left c.in_ok-phase.ensures.got c.in_ok-phase.ensures.room
+          c.in_ok-phase.ensures.out c.in_ok-out.ensures.up c.in_ok-phase.ensures.due c.in_ok-due.ensures.up
+          (subst (λ (z : List (ℕ × Letter)). Ascends me count 0 (nodes_in z)) (sym c.new.ensures.items) tt);
       out = elim c.if-seat-eq0.branch [
         | then-seat-eq0 w ↦
             out ∙ none_first (λ q. letter) me count w.if-seat-eq0.true

@@ -7,6 +7,7 @@ use Rattle.bsp_desk.specs.Picks.{picked, picked_ascends}
 use Rattle.bsp_desk.specs.Ways.{not_to_self, sends}
 use Rattle.bsp_desk.specs.declared.way.Way.TheVariants.{ToAll}
 use Rattle.append_node.specs.Telling.{rows_told}
+use Rattle.append_node.proofs.Desks.{can_begin}
 use Rattle.append_node.proofs.begin.begin_round.Goals as goal
 
 pub returns : goal.returns
@@ -16,15 +17,10 @@ returns c =
     let f = λ (q : ℕ). rows_told c.args.round (list_at c.args.lists q) in
     let next = c.in_ok-handed.ensures.next ∙ ap (λ n. picked f (λ q. sends ToAll me q) 0 n) c.requires.count in
     record {
-      can = record {
-        left = c.in_ok-phase.ensures.left;
-        got = c.in_ok-phase.ensures.got;
-        room = c.in_ok-phase.ensures.room;
-        out_up = subst (λ (z : List (ℕ × Letter)). Ascends me count 0 (nodes_in z)) (sym c.in_ok-phase.ensures.out) c.in_ok-out.ensures.up;
-        due_up = subst (λ (z : List (ℕ × Wanted)). Ascends me count 0 (nodes_in z)) (sym c.in_ok-phase.ensures.due) c.in_ok-due.ensures.up;
-        next_up = subst (λ (z : List (ℕ × Letter)). Ascends me count 0 (nodes_in z)) (sym next)
-            (picked_ascends f (λ q. sends ToAll me q) me count 0 count (omega arith) (not_to_self ToAll me));
-      };
+      can = can_begin c.args.seat _ _ _ _ c.in_ok-phase.ensures.left c.in_ok-phase.ensures.got c.in_ok-phase.ensures.room
+          c.in_ok-phase.ensures.out c.in_ok-out.ensures.up c.in_ok-phase.ensures.due c.in_ok-due.ensures.up
+          (subst (λ (z : List (ℕ × Letter)). Ascends me count 0 (nodes_in z)) (sym next)
+          (picked_ascends f (λ q. sends ToAll me q) me count 0 count (omega arith) (not_to_self ToAll me)));
       out = c.in_ok-phase.ensures.out ∙ c.in_ok-out.ensures.is;
       due = c.in_ok-phase.ensures.due ∙ c.in_ok-due.ensures.is ∙ ap (λ (w : Wanted). picked (λ q. w) (λ q. sends ToAll q me) 0 count)
           c.sizes_wanted-wanted.ensures;

@@ -4,8 +4,10 @@ use Rattle.chaos_dist.specs.Layout.{elements_of}
 use Rattle.chaos_dist.specs.declared.shape.Shape.TheVariants.{Block}
 use Rattle.append_node.proofs.Blocks.{all_of_block, elements_within}
 use Rattle.append_node.specs.Jobs.{is_plan}
-use Rattle.append_node.proofs.Listing.{all_begin, one_more}
-use Rattle.append_node.specs.Node.{plan_of}
+use Rattle.bsp_desk.specs.Nodes.{nodes_begin}
+use Rattle.chaos_bins.specs.Plan.{append_rows}
+use Rattle.append_node.proofs.Listing.{one_more}
+use Rattle.append_node.specs.Node.{append_holds, plan_of}
 use Rattle.append_node.proofs.nodes.append_nodes.Goals as goal
 
 pub start-requires-clause-in_bins : goal.start-requires-clause-in_bins
@@ -34,4 +36,5 @@ loop-id-preserved c =
 pub returns : goal.returns
 returns c =
     let plan = plan_of c.args.job.now c.args.bins.now c.args.values.now in
-    all_begin plan c.loop-id.nodes (omega (arith, c.loop-id.invariant.0, c.loop-id-test.false, c.loop-id.auto.id-end)) c.loop-id.invariant.1
+    nodes_begin (append_rows plan) (append_holds plan) plan.nodes c.loop-id.nodes
+    (omega (arith, c.loop-id.invariant.0, c.loop-id-test.false, c.loop-id.auto.id-end)) c.loop-id.invariant.1

@@ -2,18 +2,18 @@ use Rattle.std.proofs.Common.{◌≡◌, ◌-◌, ℕ, ℤ, map, arith, ap, ◌�
 use Rattle.std.specs.Prelude.{FitsSigned}
 use Rattle.std.specs.Int.{w64}
 use Rattle.std.proofs.lemmas.Int.{to_z-of_z}
-use Rattle.chaos_dist.specs.Counting.{below}
+use Rattle.chaos_dist.specs.Counting.{below, map-below-one}
 use Rattle.chaos_dist.specs.Layout.{element_of, length_of}
 use Rattle.chaos_dist.specs.declared.shape.Shape.TheVariants.{Block}
-use Rattle.append_node.specs.Dealing.{number_at}
-use Rattle.append_node.proofs.Blocks.{block_by_place, mapped_more}
+use Rattle.chaos_bins.specs.Rows.{number_at}
+use Rattle.append_node.proofs.Blocks.{block_by_place}
 use Rattle.append_node.proofs.nodes.block_of.Goals as goal
 
 pub loop-local-preserved : goal.loop-local-preserved
 loop-local-preserved c =
     let value : ℕ → ℤ = λ k. number_at c.args.numbers.now (element_of Block c.args.layout.extent c.args.layout.nodes c.args.node k - 1) in
     let fits : FitsSigned w64 c.at.result = search rules in
-    mapped_more value c.loop-local.local c.loop-local.own c.push.new.self (to_z w64 (of_z w64 c.at.result)) c.loop-local.invariant
+    map-below-one value c.loop-local.local c.loop-local.own c.push.new.self (to_z w64 (of_z w64 c.at.result)) c.loop-local.invariant
     (to_z-of_z w64 c.at.result fits
     ∙ c.at.ensures
     ∙ ap (λ l. number_at l (c.global_of-element.result - 1)) c.as_slice.ensures

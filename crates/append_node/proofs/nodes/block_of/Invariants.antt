@@ -2,7 +2,7 @@ use Rattle.std.proofs.Common.{◌≡◌, ◌-◌, map}
 use Rattle.chaos_dist.specs.Counting.{below}
 use Rattle.chaos_dist.specs.Layout.{element_of}
 use Rattle.chaos_dist.specs.declared.shape.Shape.TheVariants.{Block}
-use Rattle.append_node.specs.Dealing.{number_at}
+use Rattle.chaos_bins.specs.Rows.{number_at}
 use Rattle.append_node.proofs.nodes.block_of.Given as goal
 
 abbrev pub invariant-loop-local : goal.invariant-loop-local

@@ -1,6 +1,7 @@
 use Rattle.std.proofs.Common.{◌≡◌, ◌++◌, ◌∷◌, [], ap, ◌∙◌, ℕ, rules}
 use Rattle.bisect_node.specs.Indexed.{map_from-at}
-use Rattle.bisect_node.specs.Steps.{count_under, found_or_none, tried}
+use Rattle.chaos_cut.specs.Choices.{tried}
+use Rattle.bisect_node.specs.Steps.{count_under, found_or_none}
 use Rattle.bisect_node.specs.declared.cuts.Cut.{Cut}
 use Rattle.bisect_node.proofs.cuts.counts_of.Goals as goal
 

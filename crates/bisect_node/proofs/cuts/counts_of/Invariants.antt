@@ -1,6 +1,7 @@
 use Rattle.std.proofs.Common.{◌≡◌, take}
 use Rattle.bisect_node.specs.Indexed.{map_from}
-use Rattle.bisect_node.specs.Steps.{count_under, found_or_none, tried}
+use Rattle.chaos_cut.specs.Choices.{tried}
+use Rattle.bisect_node.specs.Steps.{count_under, found_or_none}
 use Rattle.bisect_node.proofs.cuts.counts_of.Given as goal
 
 abbrev pub invariant-loop-at : goal.invariant-loop-at

@@ -1,6 +1,6 @@
 use Rattle.std.proofs.Common.{◌≡◌, ◌*◌, ◌++◌, ◌∷◌, [], rules}
 use Rattle.std.proofs.lemmas.Bool.{le-ltb, lt-ltb}
-use Rattle.bisect_node.specs.Steps.{cut_by, cuts_from, place_after}
+use Rattle.bisect_node.specs.Steps.{cut_by, cuts_from, place_past}
 use Rattle.bisect_node.proofs.Cutting.{cuts_else, cuts_then}
 use Rattle.bisect_node.proofs.cuts.cuts_of.Goals as goal
 use Rattle.bisect_node.proofs.cuts.cuts_of.Goals.{then-piece-gt1+in_ok-cut+in_ok-push, else-piece-gt1}
@@ -16,7 +16,7 @@ loop-piece-preserved c =
     elim c.if-piece-gt1.branch [
       | then-piece-gt1+in_ok-cut+in_ok-push w ↦
           let more : c.if-piece-gt1.cuts ≡ c.loop-piece.cuts ++ cut_by axes told got c.loop-piece.base piece ∷ [] = search rules in
-          let place : c.if-piece-gt1.base ≡ place_after c.loop-piece.base (2 * axes) = search rules in
+          let place : c.if-piece-gt1.base ≡ place_past c.loop-piece.base (2 * axes) = search rules in
           cuts_then axes told got pieces c.loop-piece.piece-index piece c.loop-piece-test.true c.piece-item.is c.loop-piece.cuts all
           c.loop-piece.base
           c.loop-piece.invariant c.if-piece-gt1.cuts c.if-piece-gt1.base (lt-ltb 1 piece.parts w.if-piece-gt1.true) more place

@@ -1,6 +1,7 @@
 use Rattle.std.proofs.Common.{◌≡◌, take}
 use Rattle.bisect_node.specs.Indexed.{map_from}
-use Rattle.bisect_node.specs.Steps.{found_or_none, next_by, summed}
+use Rattle.chaos_cut.specs.Choices.{next_by}
+use Rattle.bisect_node.specs.Steps.{found_or_none, summed}
 use Rattle.bisect_node.proofs.founds.found_next.Given as goal
 
 abbrev pub invariant-loop-at : goal.invariant-loop-at

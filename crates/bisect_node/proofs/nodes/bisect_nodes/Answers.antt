@@ -3,7 +3,7 @@ use Rattle.std.proofs.lemmas.List.{length-map, length_push, map-id}
 use Rattle.bsp_core.specs.Views.{View}
 use Rattle.bisect_node.specs.Beginning.{none-begins, one-more}
 use Rattle.bisect_node.specs.Blocks.{own-is, own_in}
-use Rattle.bisect_node.specs.Plans.{coordinates_of, elements_on}
+use Rattle.bisect_node.specs.Plans.{coordinates_of, own_elements}
 use Rattle.bisect_node.specs.States.{BisectState}
 use Rattle.bisect_node.proofs.nodes.bisect_nodes.Goals as goal
 
@@ -30,7 +30,7 @@ loop-node-preserved c =
           ∙ ap (λ n. own_in n job.nodes c.loop-node.node axes) of.count
           ∙ ap (λ n. own_in plan.count n c.loop-node.node axes) of.nodes
           ∙ own-is plan c.loop-node.node axes
-          ∙ ap (λ (a : List (List ℤ)). coordinates_of a (elements_on plan c.loop-node.node)) (sym is))),
+          ∙ ap (λ (a : List (List ℤ)). coordinates_of a (own_elements plan c.loop-node.node)) (sym is))),
     )
 
 pub returns : goal.returns

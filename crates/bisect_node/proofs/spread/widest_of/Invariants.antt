@@ -6,5 +6,6 @@ use Rattle.bisect_node.proofs.spread.widest_of.Given as goal
 
 abbrev pub invariant-loop-axis : goal.invariant-loop-axis
 invariant-loop-axis l =
-    first_greatest_from l.best l.most l.axis (map (λ a. spread_told l.told l.got l.base a) (range_with_len l.axis (l.axes - l.axis)))
+    first_greatest_from l.best.axis l.best.width l.axis
+    (map (λ a. spread_told l.told l.got l.base a) (range_with_len l.axis (l.axes - l.axis)))
     ≡ widest l.axes l.told l.got l.base

@@ -16,42 +16,31 @@ rounds-standing-requires-clause-ready g c κs within =
     c.args.nodes.items c.args.mail.now.seats.items c.seat_all.new.seats.items c.requires.fresh.whole c.requires.numbered seated in
     rw c.as_mut_slice.ensures.value all
 
-pub settle-requires : goal.settle-requires
-settle-requires g c =
+pub returns : goal.returns
+returns g c =
+    let view = g.N.Phased.view in
     let works = WorksFor g.N.Phased.IsPlan g.N.Phased.count g.N.Phased.rows g.N.Phased.holds in
-    let R = HasGone g.N.Phased.view works c.args.mail.now.queues in
+    let queues = c.args.mail.now.queues in
     let ns = c.args.nodes.items in
+    let ns' = c.put_all_back.new.nodes.items in
     let ms = c.args.mail.now.seats.items in
+    let ms' = c.seat_all.new.mails.items in
+    let ms2 = c.put_all_back.new.mails.items in
     let xs = c.seat_all.new.seats.items in
     let ys = c.rounds-standing.new.seats in
     let seated : AreSeated ns ms xs = search rules in
-    let zip : AllZip R xs ys = rw c.as_mut_slice.ensures.value at c.rounds-standing.ensures.gone in
+    let zip : AllZip (HasGone view works queues) xs ys = rw c.as_mut_slice.ensures.value at c.rounds-standing.ensures.gone in
     let long : length ys ≡ c.seat_all.new.seats.len = search rules in
-    let back : AreBack ys c.put_all_back.new.nodes.items c.put_all_back.new.mails.items =
-    subst (λ (k : List (DriveSeat g.row.N.Denot)). AreBack k c.put_all_back.new.nodes.items c.put_all_back.new.mails.items)
-    (take_whole ys _ c.seat_all.new.seats.len long) c.put_all_back.ensures.back in
-    let rest : SameFrom (length ns) ms c.seat_all.new.mails.items = search rules in
-    let rest' : SameFrom (length ys) c.seat_all.new.mails.items c.put_all_back.new.mails.items = search rules in
-    whole_again g.N.Phased.view works c.args.mail.now.queues ns c.put_all_back.new.nodes.items ms c.seat_all.new.mails.items
-    c.put_all_back.new.mails.items ms xs ys c.requires.fresh c.requires.numbered seated rest zip back rest'
-
-pub returns-clause-run : goal.returns-clause-run
-returns-clause-run g c =
-    let works = WorksFor g.N.Phased.IsPlan g.N.Phased.count g.N.Phased.rows g.N.Phased.holds in
-    let R = HasGone g.N.Phased.view works c.args.mail.now.queues in
-    let ns = c.args.nodes.items in
-    let ms = c.args.mail.now.seats.items in
-    let xs = c.seat_all.new.seats.items in
-    let ys = c.rounds-standing.new.seats in
-    let seated : AreSeated ns ms xs = search rules in
-    let zip : AllZip R xs ys = rw c.as_mut_slice.ensures.value at c.rounds-standing.ensures.gone in
-    let long : length ys ≡ c.seat_all.new.seats.len = search rules in
-    let back : AreBack ys c.put_all_back.new.nodes.items c.put_all_back.new.mails.items =
-    subst (λ (k : List (DriveSeat g.row.N.Denot)). AreBack k c.put_all_back.new.nodes.items c.put_all_back.new.mails.items)
-    (take_whole ys _ c.seat_all.new.seats.len long) c.put_all_back.ensures.back in
-    let rest : SameFrom (length ns) ms c.seat_all.new.mails.items = search rules in
-    let rest' : SameFrom (length ys) c.seat_all.new.mails.items c.put_all_back.new.mails.items = search rules in
-    have_run g.N.Phased.view works c.args.mail.now.queues ns c.put_all_back.new.nodes.items ms c.seat_all.new.mails.items
-    c.put_all_back.new.mails.items c.settle.new.self.seats.items xs ys c.requires.fresh c.requires.numbered seated rest zip back rest'
-    c.settle.ensures.same c.rounds-standing.result c.settle.ensures.prefixes c.rounds-standing.ensures.finished
-    c.rounds-standing.ensures.strayed
+    let back : AreBack ys ns' ms2 =
+    subst (λ (k : List (DriveSeat g.row.N.Denot)). AreBack k ns' ms2) (take_whole ys _ c.seat_all.new.seats.len long)
+    c.put_all_back.ensures.back in
+    let rest : SameFrom (length ns) ms ms' = search rules in
+    let rest' : SameFrom (length ys) ms' ms2 = search rules in
+    let fresh = c.requires.fresh in
+    record {
+      queues = search rules;
+      whole = whole_again view works queues ns ns' ms ms' ms2 ms xs ys fresh c.requires.numbered seated rest zip back rest';
+      run = λ settled same prefixes. have_run view works queues ns ns' ms ms' ms2 settled xs ys fresh c.requires.numbered seated rest zip
+          back rest' same c.rounds-standing.result prefixes c.rounds-standing.ensures.finished c.rounds-standing.ensures.strayed;
+      going = c.rounds-standing.ensures.going;
+    }

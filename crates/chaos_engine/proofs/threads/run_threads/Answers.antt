@@ -51,72 +51,35 @@ returns-in_err-drive_all-clause-empty g c =
     subst (λ n. AreEmptyFrom n c.drive_all.new.mail.seats.items) (sym (length-map c.in_ok-nodes.nodes (λ (v : View NodeState). v))
     ∙ begin.0) c.drive_all.ensures.empty
 
-pub returns-clause-within : goal.returns-clause-within
-returns-clause-within g c =
-    let s = c.args.session.now in
-    let store = c.args.store.now in
-    let is = admitted s store c.requires.admitted in
-    let begin = c.in_ok-nodes.ensures (plan_of s store) is (session_is s store c.requires.admitted) refl in
-    within_due s store c.drive_all.new.mail.seats.items (c.drive_all.ensures.within (plan_of s store) is begin)
-
-pub returns-clause-empty : goal.returns-clause-empty
-returns-clause-empty g c =
-    let s = c.args.session.now in
-    let store = c.args.store.now in
-    let begin = c.in_ok-nodes.ensures (plan_of s store) (admitted s store c.requires.admitted) (session_is s store c.requires.admitted)
-    refl in
-    subst (λ n. AreEmptyFrom n c.drive_all.new.mail.seats.items) (sym (length-map c.in_ok-nodes.nodes (λ (v : View NodeState). v))
-    ∙ begin.0) c.drive_all.ensures.empty
-
-pub returns-clause-lists : goal.returns-clause-lists
-returns-clause-lists g c =
+pub returns : goal.returns
+returns g c =
     let s = c.args.session.now in
     let store = c.args.store.now in
     let is = admitted s store c.requires.admitted in
     let begin = c.in_ok-nodes.ensures (plan_of s store) is (session_is s store c.requires.admitted) refl in
     let nodes = c.drive_all.new.nodes in
     let mails = c.drive_all.new.mail.seats.items in
-    on_ok c.end_of.result (HasDueLists s store mails) (due_lists s store (map (λ (v : View NodeState). v) nodes) mails
-    (c.in_ok-drive_all.ensures.ended (plan_of s store) is begin))
-
-pub returns-clause-text : goal.returns-clause-text
-returns-clause-text g c =
-    let s = c.args.session.now in
-    let store = c.args.store.now in
-    let is = admitted s store c.requires.admitted in
-    let begin = c.in_ok-nodes.ensures (plan_of s store) is (session_is s store c.requires.admitted) refl in
-    let nodes = c.drive_all.new.nodes in
-    let over : AreOver s store nodes = driven_over s store nodes c.drive_all.new.mail.seats.items c.in_ok-drive_all.ensures.done
-    (c.in_ok-drive_all.ensures.ended (plan_of s store) is begin) in
-    IfOk-weaker c.end_of.result (λ e. (v : View NodeState) → slice_get nodes 0 ≡ Some v → e.text ≡ v.state.text)
-    (λ e. e.text ≡ text_of s.checked store)
-    (λ e told. text_over s store nodes c.requires.admitted over c.nodes_end_with_the_run.ensures e.text told) c.end_of.ensures.text
-
-pub returns-clause-refused : goal.returns-clause-refused
-returns-clause-refused g c =
-    let s = c.args.session.now in
-    let store = c.args.store.now in
-    let is = admitted s store c.requires.admitted in
-    let begin = c.in_ok-nodes.ensures (plan_of s store) is (session_is s store c.requires.admitted) refl in
-    let nodes = c.drive_all.new.nodes in
-    let over : AreOver s store nodes = driven_over s store nodes c.drive_all.new.mail.seats.items c.in_ok-drive_all.ensures.done
-    (c.in_ok-drive_all.ensures.ended (plan_of s store) is begin) in
-    IfOk-weaker c.end_of.result (λ e. (v : View NodeState) → slice_get nodes 0 ≡ Some v → next_of v.face ≡ Done
-    → e.refused ≡ is_some v.state.end.refused) (λ e. e.refused ≡ is_some (run_of s.checked store).refused)
-    (λ e told. refused_over s store nodes c.requires.admitted over c.nodes_end_with_the_run.ensures e.refused told) c.end_of.ensures.refused
-
-pub returns-clause-report : goal.returns-clause-report
-returns-clause-report g c =
-    let s = c.args.session.now in
-    let store = c.args.store.now in
-    let is = admitted s store c.requires.admitted in
-    let begin = c.in_ok-nodes.ensures (plan_of s store) is (session_is s store c.requires.admitted) refl in
-    let nodes = c.drive_all.new.nodes in
-    let over : AreOver s store nodes = driven_over s store nodes c.drive_all.new.mail.seats.items c.in_ok-drive_all.ensures.done
-    (c.in_ok-drive_all.ensures.ended (plan_of s store) is begin) in
-    IfOk-weaker c.end_of.result
-    (λ e. AreDone (λ (v : View NodeState). v) nodes
-    → e.report ≡ report_of s.checked.sites
-    (total_counts (length s.checked.sites) (map (λ (v : View NodeState). v.state.end.counts) nodes)))
-    (λ e. e.report ≡ report_of_program s.checked s.nodes s.rule store)
-    (λ e told. report_over s store nodes c.requires.admitted over c.nodes_end_with_the_run.ensures e.report told) c.end_of.ensures.report
+    let end = c.in_ok-drive_all.ensures.ended (plan_of s store) is begin in
+    let over : AreOver s store nodes = driven_over s store nodes mails c.in_ok-drive_all.ensures.done end in
+    record {
+      text = IfOk-weaker c.end_of.result (λ e. (v : View NodeState) → slice_get nodes 0 ≡ Some v → e.text ≡ v.state.text)
+          (λ e. e.text ≡ text_of s.checked store)
+          (λ e told. text_over s store nodes c.requires.admitted over c.nodes_end_with_the_run.ensures e.text told) c.end_of.ensures.text;
+      refused = IfOk-weaker c.end_of.result (λ e. (v : View NodeState) → slice_get nodes 0 ≡ Some v → next_of v.face ≡ Done
+          → e.refused ≡ is_some v.state.end.refused) (λ e. e.refused ≡ is_some (run_of s.checked store).refused)
+          (λ e told. refused_over s store nodes c.requires.admitted over c.nodes_end_with_the_run.ensures e.refused told)
+          c.end_of.ensures.refused;
+      report = IfOk-weaker c.end_of.result
+          (λ e. AreDone (λ (v : View NodeState). v) nodes
+          → e.report ≡ report_of s.checked.sites
+          (total_counts (length s.checked.sites) (map (λ (v : View NodeState). v.state.end.counts) nodes)))
+          (λ e. e.report ≡ report_of_program s.checked s.nodes s.rule store)
+          (λ e told. report_over s store nodes c.requires.admitted over c.nodes_end_with_the_run.ensures e.report told)
+          c.end_of.ensures.report;
+      lists = on_ok c.end_of.result (HasDueLists s store mails) (due_lists s store (map (λ (v : View NodeState). v) nodes) mails end);
+      within = within_due s store mails (c.drive_all.ensures.within (plan_of s store) is begin);
+      prefixes = c.drive_all.ensures.prefixes;
+      empty = subst (λ n. AreEmptyFrom n mails) (sym (length-map c.in_ok-nodes.nodes (λ (v : View NodeState). v)) ∙ begin.0)
+          c.drive_all.ensures.empty;
+      queues = c.drive_all.ensures.queues;
+    }

@@ -1,6 +1,6 @@
 use Rattle.std.proofs.Common.{ap, sym, subst}
 use Rattle.std.proofs.lemmas.Result.{IfOk-weaker}
-use Rattle.chaos_entering.specs.Coming.{IsFound, IsPlainFound}
+use Rattle.chaos_entering.specs.Coming.{HasFound, IsPlainFound}
 use Rattle.chaos_entering.specs.State.{held_of}
 use Rattle.chaos_holdings.specs.declared.session.Session.{Session}
 use Rattle.chaos_entering.proofs.StepEntered.{next_enters, none_found}
@@ -11,7 +11,7 @@ returns-in-Step-clause-right c =
     IfOk-weaker c.enter_step.result _ _
     (λ e h plan past rest st known same number here pages next.
     next_enters plan past rest c.args.between.now.me c.args.left st c.in-Step.number c.in-Step.site c.in-Step.begun e next
-    (subst (IsFound plan past rest c.args.between.now.me (held_of st)) c.in-Step.is
+    (subst (HasFound plan past rest c.args.between.now.me (held_of st)) c.in-Step.is
     (c.in_ok-number.ensures.found plan past rest (held_of st) known (ap (λ (x : Session). x.trace) same) number here next.come))
     (λ before behind step numbered named later begins. h plan before behind step st known same numbered named here pages later begins))
     c.enter_step.ensures.right
@@ -21,13 +21,13 @@ returns-in-Over-clause-right c =
     IfOk-weaker c.enter_output.result _ _
     (λ e h plan past rest st known same number here pages next.
     none_found plan past rest c.args.between.now.me c.args.left st e next
-    (subst (IsFound plan past rest c.args.between.now.me (held_of st)) c.in-Over.is
+    (subst (HasFound plan past rest c.args.between.now.me (held_of st)) c.in-Over.is
     (c.in_ok-number.ensures.found plan past rest (held_of st) known (ap (λ (x : Session). x.trace) same) number here next.come))
     (λ behind. h plan st known same behind (sym here.elements) (sym here.parts)))
     c.enter_output.ensures.right
 
-pub enter_step-requires-clause-plain : goal.enter_step-requires-clause-plain
-enter_step-requires-clause-plain c = (subst (IsPlainFound c.args.between.now) c.in-Step.is c.in_ok-number.ensures.plain).0
+pub enter_step-requires : goal.enter_step-requires
+enter_step-requires c = (subst (IsPlainFound c.args.between.now) c.in-Step.is c.in_ok-number.ensures.plain).0
 
-pub enter_step-requires-clause-number : goal.enter_step-requires-clause-number
-enter_step-requires-clause-number c = (subst (IsPlainFound c.args.between.now) c.in-Step.is c.in_ok-number.ensures.plain).1
+pub invariant_of-ahead-clause-few_steps : goal.invariant_of-ahead-clause-few_steps
+invariant_of-ahead-clause-few_steps c = (subst (IsPlainFound c.args.between.now) c.in-Step.is c.in_ok-number.ensures.plain).1

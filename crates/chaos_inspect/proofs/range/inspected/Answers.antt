@@ -8,25 +8,19 @@ use Rattle.chaos_inspect.proofs.range.inspected.Goals as goal
 
 pub loop-i-smaller : goal.loop-i-smaller
 loop-i-smaller c =
-    let i = to_z w128 c.loop-i.i-bits in
-    let j = to_z w128 (of_z w128 (to_z w128 c.loop-i.i-bits +ℤ pos 1)) in
-    let high = to_z w64 (of_z w64 c.args.facts.now.turn.high) in
     let below : to_z w128 c.loop-i.i-bits ≤ℤ to_z w64 (of_z w64 c.args.facts.now.turn.high) = omega (arith, ints) in
     let next : to_z w128 (of_z w128 (to_z w128 c.loop-i.i-bits +ℤ pos 1)) ≡ (to_z w128 c.loop-i.i-bits +ℤ pos 1) = omega (arith, ints) in
-    fewer_left i j high below next
+    fewer_left _ _ _ below next
 
 pub loop-i-preserved : goal.loop-i-preserved
 loop-i-preserved c =
-    let i = to_z w128 c.loop-i.i-bits in
-    let j = to_z w128 (of_z w128 (to_z w128 c.loop-i.i-bits +ℤ pos 1)) in
-    let high = to_z w64 (of_z w64 c.args.facts.now.turn.high) in
     let kept : ℤ → _ = λ z. provisional_home c.args.facts.now z == c.args.me in
     let below : to_z w128 c.loop-i.i-bits ≤ℤ to_z w64 (of_z w64 c.args.facts.now.turn.high) = omega (arith, ints) in
     let next : to_z w128 (of_z w128 (to_z w128 c.loop-i.i-bits +ℤ pos 1)) ≡ (to_z w128 c.loop-i.i-bits +ℤ pos 1) = omega (arith, ints) in
     let narrow : to_z w64 (of_z w64 (to_z w128 c.loop-i.i-bits)) ≡ to_z w128 c.loop-i.i-bits = omega (arith, ints) in
     record {
       low = omega (arith, ints);
-      rest = kept_further kept c.loop-i.list c.keep.new.list i j high _ below next
+      rest = kept_further kept c.loop-i.list c.keep.new.list _ _ _ _ below next
           (c.in_ok-keep.ensures ∙ ap (λ z. c.loop-i.list ++ cond (kept z) (z ∷ []) []) narrow)
           c.loop-i.invariant.rest;
     }

@@ -1,6 +1,6 @@
 use Rattle.std.proofs.Common.{◌∙◌, ap}
 use Rattle.std.proofs.Common.{ℤ, List}
-use Rattle.chaos_print.specs.Printing.{filled, filled_all}
+use Rattle.chaos_print.specs.Printing.{filled_by_rows, filled_all}
 use Rattle.chaos_print.proofs.Walks.{letters_kept, letters_ended, numbers_of}
 use Rattle.chaos_print.proofs.line.values_of.Goals as goal
 
@@ -15,4 +15,5 @@ returns c =
     letters_ended c.letters.values (filled_all c.fill.new.values (numbers_of c.args.letters.now)) c.args.letters.now
     c.letters.letter-index c.letters-test.false c.letters.invariant
     ∙ ap (λ (l : List ℤ). filled_all l (numbers_of c.args.letters.now)) (c.fill.ensures
-    ∙ ap (filled c.in_ok-values.values) c.as_slice.ensures ∙ ap (λ (l : List ℤ). filled l c.args.own.now) c.in_ok-values.ensures)
+    ∙ ap (filled_by_rows c.in_ok-values.values) c.as_slice.ensures
+    ∙ ap (λ (l : List ℤ). filled_by_rows l c.args.own.now) c.in_ok-values.ensures)

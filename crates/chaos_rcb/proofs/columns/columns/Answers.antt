@@ -3,7 +3,8 @@ use Rattle.std.proofs.lemmas.Result.{err_from_is_err_and}
 use Rattle.fd_edge.specs.Endings.{StopsAs}
 use Rattle.fd_edge.specs.Files.{Reads}
 use Rattle.fd_edge.specs.Readings.{files_read, reading}
-use Rattle.chaos_rcb.specs.Columns.{AreRead, IsColumnsEnd, IsUnusable, NoColumns}
+use Rattle.fd_edge.specs.Unusable.{IsUnusable}
+use Rattle.chaos_rcb.specs.Columns.{AreRead, IsColumnsEnd, NoColumns}
 use Rattle.chaos_rcb.proofs.Reading.{all_read, names_more, names_split, no_columns}
 use Rattle.chaos_rcb.proofs.columns.columns.Goals as goal
 

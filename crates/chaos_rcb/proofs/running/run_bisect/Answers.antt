@@ -1,12 +1,13 @@
 use Rattle.std.proofs.Common.{◌≡◌, List, inr, map, refl, slice_get, Some}
 use Rattle.std.proofs.lemmas.Result.{IfOk-weaker}
+use Rattle.fd_edge.specs.EndLaws.{always, ok_holds}
 use Rattle.bsp_core.specs.Views.{View}
-use Rattle.bsp_threads.specs.Due.{AreCut, AreDue}
+use Rattle.bsp_threads.specs.Due.{AreDue}
 use Rattle.bisect_node.specs.Plans.{text_of}
 use Rattle.bisect_node.specs.States.{BisectState}
 use Rattle.chaos_rcb.specs.Jobs.{is_of_job, is_plan, plan_of}
-use Rattle.chaos_rcb.specs.Outcomes.{due_in}
-use Rattle.chaos_rcb.proofs.Ending.{always, empty_behind, has_letters, on_ok, text_at_end}
+use Rattle.chaos_rcb.specs.Outcomes.{due_by_plan}
+use Rattle.chaos_rcb.proofs.Ending.{empty_behind, has_letters, job_cut, text_at_end}
 use Rattle.chaos_rcb.proofs.running.run_bisect.Goals as goal
 
 pub drive_all-requires-clause-together : goal.drive_all-requires-clause-together
@@ -20,14 +21,10 @@ drive_all-requires-clause-together g c κs within = (
 
 pub returns-in_err-drive_all-clause-cut : goal.returns-in_err-drive_all-clause-cut
 returns-in_err-drive_all-clause-cut g c =
-    let plan = plan_of c.args.job.now c.args.columns.now in
-    let is = is_plan c.args.job.now c.args.columns.now c.requires.axes c.requires.count c.requires.signed in
-    let begin = c.in_ok-nodes.ensures plan is (is_of_job c.args.job.now c.args.columns.now c.requires.axes) refl in
-    let mails = c.drive_all.new.mail.seats.items in
-    let part : AreCut plan.nodes (due_in plan) mails =
-    c.due_law.ensures.cut plan is (due_in plan) (has_letters plan) mails (c.drive_all.ensures.within plan is begin)
-    c.drive_all.ensures.prefixes (empty_behind plan c.in_ok-nodes.nodes mails begin c.drive_all.ensures.empty) in
-    always c.from_residual-in_err-drive_all.result (inr part)
+    always c.from_residual-in_err-drive_all.result
+    (inr (job_cut c.args.job.now c.args.columns.now c.in_ok-nodes.nodes c.drive_all.new.mail.seats.items c.requires.axes c.requires.count
+    c.requires.signed c.in_ok-nodes.ensures c.drive_all.ensures.within c.drive_all.ensures.prefixes c.drive_all.ensures.empty
+    c.due_law.ensures.cut))
 
 pub returns-clause-text : goal.returns-clause-text
 returns-clause-text g c =
@@ -48,18 +45,14 @@ returns-clause-letters g c =
     let begin = c.in_ok-nodes.ensures plan is (is_of_job c.args.job.now c.args.columns.now c.requires.axes) refl in
     let mails = c.drive_all.new.mail.seats.items in
     let views : List (View BisectState) = map (λ (s : View BisectState). s) c.drive_all.new.nodes in
-    let whole : AreDue plan.nodes (due_in plan) mails =
-    c.due_law.ensures.due plan is (due_in plan) (has_letters plan) views mails (c.in_ok-drive_all.ensures.ended plan is begin)
+    let whole : AreDue plan.nodes (due_by_plan plan) mails =
+    c.due_law.ensures.due plan is (due_by_plan plan) (has_letters plan) views mails (c.in_ok-drive_all.ensures.ended plan is begin)
     (empty_behind plan c.in_ok-nodes.nodes mails begin c.drive_all.ensures.empty) in
-    on_ok c.first_text.result whole
+    ok_holds c.first_text.result whole
 
 pub returns-clause-cut : goal.returns-clause-cut
 returns-clause-cut g c =
-    let plan = plan_of c.args.job.now c.args.columns.now in
-    let is = is_plan c.args.job.now c.args.columns.now c.requires.axes c.requires.count c.requires.signed in
-    let begin = c.in_ok-nodes.ensures plan is (is_of_job c.args.job.now c.args.columns.now c.requires.axes) refl in
-    let mails = c.drive_all.new.mail.seats.items in
-    let part : AreCut plan.nodes (due_in plan) mails =
-    c.due_law.ensures.cut plan is (due_in plan) (has_letters plan) mails (c.drive_all.ensures.within plan is begin)
-    c.drive_all.ensures.prefixes (empty_behind plan c.in_ok-nodes.nodes mails begin c.drive_all.ensures.empty) in
-    always c.first_text.result (inr part)
+    always c.first_text.result
+    (inr (job_cut c.args.job.now c.args.columns.now c.in_ok-nodes.nodes c.drive_all.new.mail.seats.items c.requires.axes c.requires.count
+    c.requires.signed c.in_ok-nodes.ensures c.drive_all.ensures.within c.drive_all.ensures.prefixes c.drive_all.ensures.empty
+    c.due_law.ensures.cut))

@@ -3,29 +3,18 @@ use Rattle.chaos_vote.specs.Votes.{least_of}
 use Rattle.chaos_vote.specs.LeastLaws.{next_vote, all_votes, IsLeast, is_least, one_of, none_less, none_where}
 use Rattle.chaos_vote.proofs.order.least.Goals as goal
 
-pub returns-clause-least : goal.returns-clause-least
-returns-clause-least c = all_votes c.args.votes.now c.loop-vote.vote-index c.loop-vote.least c.loop-vote-test.false c.loop-vote.invariant
-
-pub returns-clause-none : goal.returns-clause-none
-returns-clause-none c =
+pub returns : goal.returns
+returns c =
     let votes = c.args.votes.now in
     let e : c.loop-vote.least ≡ least_of votes = all_votes votes c.loop-vote.vote-index c.loop-vote.least c.loop-vote-test.false
     c.loop-vote.invariant in
-    none_where votes c.loop-vote.least (subst (IsLeast votes) (sym e) (is_least votes))
-
-pub returns-clause-told : goal.returns-clause-told
-returns-clause-told c =
-    let votes = c.args.votes.now in
-    let e : c.loop-vote.least ≡ least_of votes = all_votes votes c.loop-vote.vote-index c.loop-vote.least c.loop-vote-test.false
-    c.loop-vote.invariant in
-    one_of votes c.loop-vote.least (subst (IsLeast votes) (sym e) (is_least votes))
-
-pub returns-clause-no_less : goal.returns-clause-no_less
-returns-clause-no_less c =
-    let votes = c.args.votes.now in
-    let e : c.loop-vote.least ≡ least_of votes = all_votes votes c.loop-vote.vote-index c.loop-vote.least c.loop-vote-test.false
-    c.loop-vote.invariant in
-    none_less votes c.loop-vote.least (subst (IsLeast votes) (sym e) (is_least votes))
+    let least : IsLeast votes c.loop-vote.least = subst (IsLeast votes) (sym e) (is_least votes) in
+    record {
+      least = e;
+      none = none_where votes c.loop-vote.least least;
+      told = one_of votes c.loop-vote.least least;
+      no_less = none_less votes c.loop-vote.least least;
+    }
 
 pub loop-vote-preserved : goal.loop-vote-preserved
 loop-vote-preserved c =

@@ -1,10 +1,7 @@
-use Rattle.std.proofs.Common.{◌≡◌, length, map, string_bytes}
+use Rattle.std.proofs.Common.{◌≡◌, drop, map, string_bytes}
 use Rattle.std.specs.List.{list_all}
 use Rattle.fd_command.specs.ClapCommand.{is_clear}
 use Rattle.fd_command.proofs.request.are_clear.Given as goal
 
-abbrev pub invariant-loop-first : goal.invariant-loop-first
-invariant-loop-first l = list_all is_clear (map string_bytes l.rest) ≡ list_all is_clear (map string_bytes l.fn.words)
-
-abbrev pub decreases-loop-first : goal.decreases-loop-first
-decreases-loop-first l = length l.rest
+abbrev pub invariant-loop-word : goal.invariant-loop-word
+invariant-loop-word l = list_all is_clear (map string_bytes (drop l.word-index l.words)) ≡ list_all is_clear (map string_bytes l.words)

@@ -10,12 +10,17 @@ returns-in_err-checked_mul c =
 
 pub returns-in_err-value : goal.returns-in_err-value
 returns-in_err-value c =
-    let ds = c.args.digits.now in
     let i = c.loop-byte.byte-index in
-    let within : i < length ds = omega arith in
-    let digit = digit_value-is (get_or ds i 0) (c.requires i within) in
-    c.from_residual-in_err-value.ensures ∙ sym (number_of-over ds i within
-    (omega (arith, c.in_err-value.ensures, c.in_ok-checked_mul.ensures, c.from-digit.ensures, c.loop-byte.invariant, digit)))
+    let within : i < length c.args.digits.now = omega arith in
+    c.from_residual-in_err-value.ensures ∙ sym (number_of-over c.args.digits.now i within
+    (omega (
+      arith,
+      c.in_err-value.ensures,
+      c.in_ok-checked_mul.ensures,
+      c.from-digit.ensures,
+      c.loop-byte.invariant,
+      digit_value-is (get_or c.args.digits.now i 0) (c.requires i within),
+    )))
 
 pub loop-byte-preserved : goal.loop-byte-preserved
 loop-byte-preserved c =

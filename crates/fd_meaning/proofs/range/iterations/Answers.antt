@@ -6,12 +6,8 @@ use Rattle.fd_meaning.proofs.range.iterations.Goals as goal
 
 pub loop-i-smaller : goal.loop-i-smaller
 loop-i-smaller c =
-    let i = to_z w128 c.loop-i.i-bits in
-    let j = to_z w128 (of_z w128 (to_z w128 c.loop-i.i-bits +ℤ pos 1)) in
-    let high = to_z w64 (of_z w64 c.args.high) in
-    let below : to_z w128 c.loop-i.i-bits ≤ℤ to_z w64 (of_z w64 c.args.high) = omega (arith, ints) in
-    let next : to_z w128 (of_z w128 (to_z w128 c.loop-i.i-bits +ℤ pos 1)) ≡ (to_z w128 c.loop-i.i-bits +ℤ pos 1) = omega (arith, ints) in
-    fewer_left i j high below next
+    fewer_left (to_z w128 c.loop-i.i-bits) (to_z w128 (of_z w128 (to_z w128 c.loop-i.i-bits +ℤ pos 1))) (to_z w64 (of_z w64 c.args.high))
+    (omega (arith, ints)) (omega (arith, ints))
 
 pub loop-i-preserved : goal.loop-i-preserved
 loop-i-preserved c =

@@ -1,18 +1,8 @@
-use Rattle.std.proofs.Common.{◌≡◌, ◌∙◌, ap, sym, true, rules, slice_set, get_or, ◌<◌, length}
-use Rattle.std.specs.Str.{bytes_eq}
+use Rattle.std.proofs.Common.{rules}
 use Rattle.fd_outside.specs.Named.{refilled}
-use Rattle.fd_outside.proofs.Named.{changed_at}
-use Rattle.fd_outside.specs.declared.memory.MemoryFile.{MemoryFile}
+use Rattle.fd_outside.proofs.Named.{changed_held}
 use Rattle.fd_outside.proofs.memory.replace_in.Goals as goal
 
 pub returns-then-eq : goal.returns-then-eq
-returns-then-eq c =
-    let file : MemoryFile = c.index_mut-file.result.now in
-    let items = c.loop-place.files.items in
-    let at = c.loop-place.place in
-    let here : at < length items = search rules in
-    let is : get_or items at file ≡ file = search rules in
-    let tested : bytes_eq file.name c.args.name.now ≡ true = search rules in
-    ap (λ (f : MemoryFile). slice_set items at (refilled c.args.bytes f)) (sym is)
-    ∙ changed_at (refilled c.args.bytes) items c.args.files.now.items at file c.args.name.now here
-    (ap (λ (f : MemoryFile). bytes_eq f.name c.args.name.now) is ∙ tested) c.loop-place.invariant.left
+returns-then-eq c = changed_held (refilled c.args.bytes) c.loop-place.files.items c.args.files.now.items c.loop-place.place
+    c.index_mut-file.result.now c.args.name.now (search rules) (search rules) (search rules) c.loop-place.invariant.left

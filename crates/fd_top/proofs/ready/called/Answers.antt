@@ -1,7 +1,7 @@
 use Rattle.std.proofs.Common.{subst}
 use Rattle.fd_command.specs.Shown.{shown}
 use Rattle.fd_edge.specs.Readings.{files_read}
-use Rattle.fd_top.specs.Ready.{IsSound, Tells}
+use Rattle.fd_top.specs.Ready.{IsSoundRequest, Tells}
 use Rattle.fd_top.proofs.Readying.{stopped_call, untaken_call}
 use Rattle.fd_top.proofs.Running.{runnable}
 use Rattle.fd_top.proofs.ready.called.Goals as goal
@@ -25,7 +25,7 @@ returns-in-Ok-origin_ready-clause-runs g c =
     let r = files_read g.F.Files.contents g.F.Files.faults c.args.files.now c.origin_ready.new.files in
     let ready = c.in-Ok-origin_ready.ready in
     record {
-      nodes = (subst IsSound c.in-Ok.is c.requires).0;
+      nodes = (subst IsSoundRequest c.in-Ok.is c.requires).0;
       ready = runnable w.origin r ready.source ready.store
           c.in-Ok-origin_ready.ensures.ready;
     }

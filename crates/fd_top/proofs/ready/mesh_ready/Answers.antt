@@ -1,6 +1,6 @@
 use Rattle.std.proofs.Common.{◌≤◌, arith}
 use Rattle.fd_command.specs.Asked.{mesh}
-use Rattle.fd_top.specs.Outcomes.{Stops, too_long, too_long_line}
+use Rattle.fd_top.specs.Outcomes.{ReadingStops, too_long, too_long_line}
 use Rattle.fd_top.specs.declared.ready.Ready.{Ready}
 use Rattle.fd_top.proofs.Readying.{ok_more, err_more, says_line, long_mesh, mesh_gives, mesh_stops}
 use Rattle.fd_top.proofs.ready.mesh_ready.Goals as goal
@@ -10,7 +10,7 @@ unfolding too_long_line
 returns-then-len-gt-SOURCE_LIMIT-clause-stop c = λ r.
     let long = long_mesh c.args.size c.from-2.result c.len.result c.in-Ok.made.source c.in-Ok.ensures.source c.from-2.ensures c.len.ensures
     c.if-len-gt-SOURCE_LIMIT.true in
-    says_line (Stops (mesh c.args.seed c.args.size) r) 65 too_long_line c.stop_with.result (too_long long) c.stop_with.ensures
+    says_line (ReadingStops (mesh c.args.seed c.args.size) r) 65 too_long_line c.stop_with.result (too_long long) c.stop_with.ensures
 
 pub returns-clause-ready : goal.returns-clause-ready
 returns-clause-ready c = λ r.

@@ -1,5 +1,5 @@
 use Rattle.fd_top.specs.Answers.{texts}
-use Rattle.fd_top.specs.Threads.{IsCut, RunsOnThreads, asked_to_run, run_usage_line}
+use Rattle.fd_top.specs.Threads.{WasCut, RunsOnThreads, asked_to_run, run_usage_line}
 use Rattle.fd_top.proofs.Answered.{complete, ran_right, sound, tells, threads_status}
 use Rattle.fd_top.proofs.Heading.{headline}
 use Rattle.fd_top.proofs.run.run_program.Goals as goal
@@ -9,17 +9,19 @@ run-requires-clause-request g c = λ lifetimes lived.
     let asking = c.requested_to_run-request.ensures in
     sound c.requested_to_run-request.result asking.some_nodes asking.few_nodes asking.range
 
-pub returns-clause-answer : goal.returns-clause-answer
-returns-clause-answer g c =
+pub returns : goal.returns
+returns g c =
     let asking = c.requested_to_run-request.ensures in
     let request = asked_to_run (texts c.args.words.now) in
-    c.run.ensures.answer request (tells request c.requested_to_run-request.result asking.taken asking.refused)
-
-pub returns-clause-complete : goal.returns-clause-complete
-returns-clause-complete g c = complete run_usage_line RunsOnThreads threads_status IsCut _ _ _ _ _ (returns-clause-answer g c)
-
-pub returns-clause-ran : goal.returns-clause-ran
-returns-clause-ran g c = ran_right run_usage_line RunsOnThreads threads_status IsCut _ _ _ _ _ (returns-clause-answer g c)
-
-pub returns-clause-headline : goal.returns-clause-headline
-returns-clause-headline g c = λ is_run. headline _ _ _ _ _ (returns-clause-ran g c is_run)
+    let answer = c.run.ensures.answer request (tells request c.requested_to_run-request.result asking.taken asking.refused) in
+    let ran = ran_right run_usage_line RunsOnThreads threads_status WasCut _ _ _ _ _ answer in
+    record {
+      answer = answer;
+      complete = complete run_usage_line RunsOnThreads threads_status WasCut _ _ _ _ _ answer;
+      ran = ran;
+      headline = λ is_run. headline _ _ _ _ _ (ran is_run);
+      queues = c.run.ensures.queues;
+      contents = c.run.ensures.files.0;
+      faults = c.run.ensures.files.1;
+      failures = c.run.ensures.failures;
+    }

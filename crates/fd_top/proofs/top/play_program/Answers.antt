@@ -1,5 +1,5 @@
 use Rattle.fd_command.specs.Asked.{asked}
-use Rattle.fd_top.specs.Outcomes.{Plays, usage_line}
+use Rattle.fd_top.specs.Outcomes.{PlaysRun, usage_line}
 use Rattle.fd_top.specs.Answers.{PlayStays, texts}
 use Rattle.fd_top.proofs.Answered.{complete, plays_status, ran_right, sound, tells}
 use Rattle.fd_top.proofs.top.play_program.Goals as goal
@@ -16,7 +16,7 @@ returns-clause-answer g c =
     c.play.ensures.answer request (tells request c.requested-request.result asking.taken asking.refused)
 
 pub returns-clause-complete : goal.returns-clause-complete
-returns-clause-complete g c = complete usage_line Plays plays_status PlayStays _ _ _ _ _ (returns-clause-answer g c)
+returns-clause-complete g c = complete usage_line PlaysRun plays_status PlayStays _ _ _ _ _ (returns-clause-answer g c)
 
 pub returns-clause-ran : goal.returns-clause-ran
-returns-clause-ran g c = ran_right usage_line Plays plays_status PlayStays _ _ _ _ _ (returns-clause-answer g c)
+returns-clause-ran g c = ran_right usage_line PlaysRun plays_status PlayStays _ _ _ _ _ (returns-clause-answer g c)

@@ -2,7 +2,7 @@ use Rattle.std.proofs.Common.{◌∙◌, ap, sym}
 use Rattle.fd_program.specs.Scalars.{scalar_value}
 use Rattle.fd_program.specs.declared.scalar.CheckedScalar as scalar
 use Rattle.fd_trace.specs.Sizes.{scalar_faults}
-use Rattle.fd_trace.specs.Outcomes.{outcome, opposed, joined}
+use Rattle.fd_trace.specs.Outcomes.{outcome, opposed, joined_scalars}
 use Rattle.fd_trace.proofs.Values.{negate_outcome, binary_outcome, of_same}
 use Rattle.fd_trace.proofs.scalars.+value.Goals as goal
 
@@ -19,7 +19,8 @@ returns-in-Binary t c =
     of_same c.args.variables.now c.args.scalar.now c.join.result (scalar.Binary c.in-Binary.op c.in-Binary.at c.in-Binary.left
     c.in-Binary.right) c.in-Binary.is
     (c.join.ensures
-    ∙ ap (λ r. joined c.in-Binary.op c.in-Binary.at r c.value-in-Binary-2.result) (c.value-in-Binary.ensures
+    ∙ ap (λ r. joined_scalars c.in-Binary.op c.in-Binary.at r c.value-in-Binary-2.result) (c.value-in-Binary.ensures
     ∙ ap found c.get-in-Binary.ensures)
-    ∙ ap (joined c.in-Binary.op c.in-Binary.at (found c.in-Binary.left)) (c.value-in-Binary-2.ensures ∙ ap found c.get-in-Binary-2.ensures)
+    ∙ ap (joined_scalars c.in-Binary.op c.in-Binary.at (found c.in-Binary.left))
+    (c.value-in-Binary-2.ensures ∙ ap found c.get-in-Binary-2.ensures)
     ∙ sym (binary_outcome c.args.variables.now c.in-Binary.op c.in-Binary.at c.in-Binary.left c.in-Binary.right))

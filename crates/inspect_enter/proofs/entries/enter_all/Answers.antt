@@ -1,4 +1,4 @@
-use Rattle.std.proofs.Common.{◌∙◌, ◌+◌}
+use Rattle.std.proofs.Common.{◌∙◌}
 use Rattle.inspect_enter.proofs.OneEntered as one
 use Rattle.inspect_enter.proofs.entries.enter_all.Goals as goal
 
@@ -7,10 +7,8 @@ enter_one-requires-clause-tables c = c.loop-item.invariant.count ∙ c.requires.
 
 pub returns-in_err-local-clause-come : goal.returns-in_err-local-clause-come
 returns-in_err-local-clause-come c =
-    one.come_upto c.args.facts.now c.args.me c.args.tables.now c.enter_one.new.tables c.args.placed.now (c.loop-item.item-index + 1)
-    (one.come_more c.args.facts.now c.args.me c.args.tables.now c.loop-item.tables c.enter_one.new.tables c.args.placed.now
-    c.loop-item.item-index _ c.loop-item-test.true
-    c.loop-item.invariant.come c.in_err-local.ensures.come)
+    one.come_so_far c.args.facts.now c.args.me c.args.tables.now c.loop-item.tables c.enter_one.new.tables c.args.placed.now
+    c.loop-item.item-index _ c.loop-item-test.true c.loop-item.invariant.come c.in_err-local.ensures.come
 
 pub returns-in_err-keep-clause-grown : goal.returns-in_err-keep-clause-grown
 returns-in_err-keep-clause-grown c =
@@ -19,10 +17,8 @@ returns-in_err-keep-clause-grown c =
 
 pub returns-in_err-keep-clause-come : goal.returns-in_err-keep-clause-come
 returns-in_err-keep-clause-come c =
-    one.come_upto c.args.facts.now c.args.me c.args.tables.now c.enter_one.new.tables c.args.placed.now (c.loop-item.item-index + 1)
-    (one.come_more c.args.facts.now c.args.me c.args.tables.now c.loop-item.tables c.enter_one.new.tables c.args.placed.now
-    c.loop-item.item-index _ c.loop-item-test.true
-    c.loop-item.invariant.come c.in_ok-local.ensures.come)
+    one.come_so_far c.args.facts.now c.args.me c.args.tables.now c.loop-item.tables c.enter_one.new.tables c.args.placed.now
+    c.loop-item.item-index _ c.loop-item-test.true c.loop-item.invariant.come c.in_ok-local.ensures.come
 
 pub loop-item-preserved : goal.loop-item-preserved
 loop-item-preserved c = record {

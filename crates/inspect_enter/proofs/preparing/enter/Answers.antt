@@ -12,13 +12,14 @@ use Rattle.fd_words.specs.declared.place.Place.{Place}
 use Rattle.inspect_uses.specs.Reached.{place_met}
 use Rattle.inspect_enter.proofs.Whole as whole
 use Rattle.inspect_enter.specs.Needs.{needs_of}
-use Rattle.inspect_enter.specs.Placed.{IsKept, IsFound, AllCome, is_mapped, placed_at}
+use Rattle.inspect_enter.specs.Placed.{MayBeStamped, IsFound, AllCome, is_mapped, placed_at}
 use Rattle.inspect_enter.specs.Preparing.{AreGiven, IsNeed, uses_beyond}
-use Rattle.plan_tables.specs.Tables.{slots_of}
+use Rattle.plan_tables.specs.Tables.{KeepsOtherStamps, HasPlaces, slots_entered}
 use Rattle.inspect_enter.specs.declared.placed.Placed.{Placed}
 use Rattle.chaos_sched.specs.declared.need.Need.{Need}
 use Rattle.fd_program.specs.Homes.{executed_by}
 use Rattle.inspect_enter.proofs.preparing.enter.Goals as goal
+use Rattle.inspect_enter.proofs.preparing.enter.Goals.{After-enter_all}
 
 -- each reference with its place
 placed_are : (f : LoopFacts) (owners : List (List ℕ)) (store : List (List ℤ)) (p : ℕ) (rows : List ℤ) (places : List Place)
@@ -34,29 +35,47 @@ placed_are f owners store p rows places given own uses placed lent read told =
     told owners given.settled.owned (given.told ∙ ap (λ us. map (place_met f owners) (filter (is_mapped f) us)) (sym is))
     ∙ ap (map (placed_at f owners)) is
 
-pub returns-in_err-references-clause-others : goal.returns-in_err-references-clause-others
-returns-in_err-references-clause-others c =
+-- where all references are entered, other loops' stamps stay
+others_kept : (c : After-enter_all) → KeepsOtherStamps c.args.facts.now c.args.tables.now c.enter_all.new.tables
+others_kept c =
     whole.keeps_others c.args.facts.now c.args.me c.requires.accepted c.args.tables.now c.clear_own.new.tables c.enter_all.new.tables
     c.in_ok-placed.placed c.in_ok-placed.ensures.kept
     c.clear_own.ensures.entries c.enter_all.ensures.grown
     (subst (λ l. AllCome c.args.facts.now c.args.me c.clear_own.new.tables l c.enter_all.new.tables) c.as_slice-2.ensures
     c.enter_all.ensures.come)
+
+-- and places stand in the tables
+places_kept : (c : After-enter_all) (owners : List (List ℕ)) (store : List (List ℤ))
+    → AreGiven c.args.facts.now owners store c.args.me c.args.rows.now c.args.places.now → HasPlaces owners c.args.tables.now
+    → HasPlaces owners c.enter_all.new.tables
+places_kept c owners store given before =
+    whole.has_places c.args.facts.now c.args.me c.requires.accepted c.args.tables.now c.clear_own.new.tables c.enter_all.new.tables
+    c.in_ok-placed.placed c.in_ok-placed.ensures.kept
+    c.clear_own.ensures.entries c.enter_all.ensures.grown
+    (subst (λ l. AllCome c.args.facts.now c.args.me c.clear_own.new.tables l c.enter_all.new.tables) c.as_slice-2.ensures
+    c.enter_all.ensures.come)
+    owners (kept_uses c.args.facts.now store (executed_by c.args.facts.now owners store c.args.me))
+    (placed_are c.args.facts.now owners store c.args.me c.args.rows.now c.args.places.now given c.in_ok-own.own.uses c.as_slice.result.now
+    c.in_ok-placed.placed c.as_slice.ensures c.in_ok-own.ensures.uses c.in_ok-placed.ensures.places)
+    before
+
+pub returns-in_err-references-clause-others : goal.returns-in_err-references-clause-others
+returns-in_err-references-clause-others c = others_kept (goal.at.returns-in_err-references-clause-others c).After-enter_all
+
+pub returns-in_err-references-clause-places : goal.returns-in_err-references-clause-places
+returns-in_err-references-clause-places c = places_kept (goal.at.returns-in_err-references-clause-places c).After-enter_all
 
 pub returns-in_err-needs-clause-others : goal.returns-in_err-needs-clause-others
-returns-in_err-needs-clause-others c =
-    whole.keeps_others c.args.facts.now c.args.me c.requires.accepted c.args.tables.now c.clear_own.new.tables c.enter_all.new.tables
-    c.in_ok-placed.placed c.in_ok-placed.ensures.kept
-    c.clear_own.ensures.entries c.enter_all.ensures.grown
-    (subst (λ l. AllCome c.args.facts.now c.args.me c.clear_own.new.tables l c.enter_all.new.tables) c.as_slice-2.ensures
-    c.enter_all.ensures.come)
+returns-in_err-needs-clause-others c = others_kept (goal.at.returns-in_err-needs-clause-others c).After-enter_all
+
+pub returns-in_err-needs-clause-places : goal.returns-in_err-needs-clause-places
+returns-in_err-needs-clause-places c = places_kept (goal.at.returns-in_err-needs-clause-places c).After-enter_all
 
 pub returns-clause-others : goal.returns-clause-others
-returns-clause-others c =
-    whole.keeps_others c.args.facts.now c.args.me c.requires.accepted c.args.tables.now c.clear_own.new.tables c.enter_all.new.tables
-    c.in_ok-placed.placed c.in_ok-placed.ensures.kept
-    c.clear_own.ensures.entries c.enter_all.ensures.grown
-    (subst (λ l. AllCome c.args.facts.now c.args.me c.clear_own.new.tables l c.enter_all.new.tables) c.as_slice-2.ensures
-    c.enter_all.ensures.come)
+returns-clause-others c = others_kept (goal.at.returns-clause-others c).After-enter_all
+
+pub returns-clause-places : goal.returns-clause-places
+returns-clause-places c = places_kept (goal.at.returns-clause-places c).After-enter_all
 
 pub needs_of-requires-clause-each : goal.needs_of-requires-clause-each
 needs_of-requires-clause-each c =
@@ -72,42 +91,6 @@ invariant_of-result c =
       elements = subst (All (λ (n : Need). n.element < 2 ^ 63)) (sym is) small.0;
       locals = subst (All (λ (n : Need). n.place.local < 2 ^ 63)) (sym is) small.1;
     }
-
-pub returns-in_err-references-clause-places : goal.returns-in_err-references-clause-places
-returns-in_err-references-clause-places c = λ owners store given before.
-    whole.has_places c.args.facts.now c.args.me c.requires.accepted c.args.tables.now c.clear_own.new.tables c.enter_all.new.tables
-    c.in_ok-placed.placed c.in_ok-placed.ensures.kept
-    c.clear_own.ensures.entries c.enter_all.ensures.grown
-    (subst (λ l. AllCome c.args.facts.now c.args.me c.clear_own.new.tables l c.enter_all.new.tables) c.as_slice-2.ensures
-    c.enter_all.ensures.come)
-    owners (kept_uses c.args.facts.now store (executed_by c.args.facts.now owners store c.args.me))
-    (placed_are c.args.facts.now owners store c.args.me c.args.rows.now c.args.places.now given c.in_ok-own.own.uses c.as_slice.result.now
-    c.in_ok-placed.placed c.as_slice.ensures c.in_ok-own.ensures.uses c.in_ok-placed.ensures.places)
-    before
-
-pub returns-in_err-needs-clause-places : goal.returns-in_err-needs-clause-places
-returns-in_err-needs-clause-places c = λ owners store given before.
-    whole.has_places c.args.facts.now c.args.me c.requires.accepted c.args.tables.now c.clear_own.new.tables c.enter_all.new.tables
-    c.in_ok-placed.placed c.in_ok-placed.ensures.kept
-    c.clear_own.ensures.entries c.enter_all.ensures.grown
-    (subst (λ l. AllCome c.args.facts.now c.args.me c.clear_own.new.tables l c.enter_all.new.tables) c.as_slice-2.ensures
-    c.enter_all.ensures.come)
-    owners (kept_uses c.args.facts.now store (executed_by c.args.facts.now owners store c.args.me))
-    (placed_are c.args.facts.now owners store c.args.me c.args.rows.now c.args.places.now given c.in_ok-own.own.uses c.as_slice.result.now
-    c.in_ok-placed.placed c.as_slice.ensures c.in_ok-own.ensures.uses c.in_ok-placed.ensures.places)
-    before
-
-pub returns-clause-places : goal.returns-clause-places
-returns-clause-places c = λ owners store given before.
-    whole.has_places c.args.facts.now c.args.me c.requires.accepted c.args.tables.now c.clear_own.new.tables c.enter_all.new.tables
-    c.in_ok-placed.placed c.in_ok-placed.ensures.kept
-    c.clear_own.ensures.entries c.enter_all.ensures.grown
-    (subst (λ l. AllCome c.args.facts.now c.args.me c.clear_own.new.tables l c.enter_all.new.tables) c.as_slice-2.ensures
-    c.enter_all.ensures.come)
-    owners (kept_uses c.args.facts.now store (executed_by c.args.facts.now owners store c.args.me))
-    (placed_are c.args.facts.now owners store c.args.me c.args.rows.now c.args.places.now given c.in_ok-own.own.uses c.as_slice.result.now
-    c.in_ok-placed.placed c.as_slice.ensures c.in_ok-own.ensures.uses c.in_ok-placed.ensures.places)
-    before
 
 pub returns-clause-entering : goal.returns-clause-entering
 returns-clause-entering c = λ owners store given.
@@ -125,14 +108,14 @@ returns-clause-entering c = λ owners store given.
     let at_uses : AllZip (IsFound f me c.enter_all.new.tables) (map (placed_at f owners) (kept_uses f store executed))
     c.in_ok-references.references =
     subst (λ l. AllZip (IsFound f me c.enter_all.new.tables) l c.in_ok-references.references) is found in
-    let kept = subst (AllByRecursion (IsKept f)) uses c.in_ok-own.ensures.kept in
+    let kept = subst (AllByRecursion (MayBeStamped f)) uses c.in_ok-own.ensures.kept in
     let needs = c.in_ok-needs.ensures.needs ∙ ap (λ l. needs_of l c.as_slice-4.result.now) (c.as_slice-3.ensures ∙ is)
     ∙ ap (needs_of (map (placed_at f owners) (kept_uses f store executed))) c.as_slice-4.ensures in
     record {
       iterations = c.in_ok-own.ensures.iterations store executed met given.read;
       references = whole.all_stand f me owners c.enter_all.new.tables (kept_uses f store executed) c.in_ok-references.references kept
           at_uses;
-      needs = subst (AllZip (IsNeed f owners (slots_of f c.enter_all.new.tables)) (uses_beyond f owners store me)) (sym needs)
+      needs = subst (AllZip (IsNeed f owners (slots_entered f c.enter_all.new.tables)) (uses_beyond f owners store me)) (sym needs)
           (whole.all_need f me owners c.enter_all.new.tables (kept_uses f store executed) c.in_ok-references.references kept at_uses);
       entered = λ d e stamp own. (
         whole.entered_there f me c.requires.accepted c.args.tables.now c.clear_own.new.tables c.enter_all.new.tables c.in_ok-placed.placed

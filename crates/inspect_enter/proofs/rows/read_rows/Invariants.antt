@@ -1,7 +1,7 @@
 use Rattle.std.proofs.Common.{◌≡◌, ◌≤◌, ◌-◌, ℤ, List, length}
 use Rattle.std.specs.List.{AllByRecursion, flat_map}
 use Rattle.plan_loop.specs.LoopLetters.{iteration_row}
-use Rattle.inspect_enter.specs.Placed.{IsKept}
+use Rattle.inspect_enter.specs.Placed.{MayBeStamped}
 use Rattle.inspect_enter.specs.Rows.{AreMet}
 use Rattle.inspect_enter.proofs.Reading.{IsReadTo}
 use Rattle.inspect_enter.proofs.rows.read_rows.Given as goal
@@ -9,7 +9,7 @@ use Rattle.inspect_enter.proofs.rows.read_rows.Given as goal
 abbrev pub invariant-loop-at : goal.invariant-loop-at
 invariant-loop-at l = record {
   within : l.at ≤ length l.rows;
-  kept : AllByRecursion (IsKept l.facts) l.own.uses;
+  kept : AllByRecursion (MayBeStamped l.facts) l.own.uses;
   read : (store : List (List ℤ)) (its : List ℤ) → AreMet l.facts store its → l.rows ≡ flat_map (iteration_row l.facts store) its
       → IsReadTo l.facts store l.rows its l.at l.own.iterations l.own.uses;
 }

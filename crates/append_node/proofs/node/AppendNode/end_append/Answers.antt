@@ -1,7 +1,7 @@
 use Rattle.std.proofs.Common.{◌≡◌, ◌-◌, ◌∙◌, ap, map, sym}
 use Rattle.bsp_core.specs.Views.{View}
 use Rattle.chaos_bins.specs.Coming.{all_pairs}
-use Rattle.append_node.specs.Dealing.{stepped}
+use Rattle.chaos_bins.specs.Dealing.{stepped}
 use Rattle.append_node.specs.Node.{AppendState}
 use Rattle.append_node.proofs.Putting.{length-lists, lists_are, round_is_put}
 use Rattle.append_node.proofs.node.AppendNode.end_append.Goals as goal

@@ -25,23 +25,9 @@ loop-node-preserved g c =
           ∙ moves_append (g.N.Phased.rows plan) (take c.loop-node.node-index c.args.turns.now) (p ∷ []) c.args.self.now.moved),
     )
 
-pub overflow_sub-result : goal.overflow_sub-result
-overflow_sub-result g c = omega (
-  arith,
-  c.moves-before.ensures,
-  c.moves.ensures,
-  plays_grow g.N.Phased.view _ c.args.self.now
-      c.loop-node.self c.loop-node.invariant.2,
-)
-
-pub returns-clause-count : goal.returns-clause-count
-returns-clause-count g c = omega (
-  arith,
-  c.moves-before.ensures,
-  c.moves.ensures,
-  plays_grow g.N.Phased.view _ c.args.self.now
-      c.loop-node.self c.loop-node.invariant.2,
-)
+pub moves_since-requires : goal.moves_since-requires
+moves_since-requires g c =
+    omega (arith, c.moves-before.ensures, plays_grow g.N.Phased.view _ c.args.self.now c.loop-node.self c.loop-node.invariant.2)
 
 pub returns-in-Err-clause-stops : goal.returns-in-Err-clause-stops
 returns-in-Err-clause-stops g c = (

@@ -1,4 +1,4 @@
-use Rattle.std.proofs.Common.{suc, ◌+◌, ◌-◌, length, arith, ap, sym, ◌∙◌}
+use Rattle.std.proofs.Common.{suc, ◌+◌, length, arith, ap, sym, ◌∙◌}
 use Rattle.bsp_core.specs.Script.{moves_by}
 use Rattle.bsp_core.specs.Turns.{nodes_below, rounds}
 use Rattle.bsp_core.proofs.Script.{moves_append, round_more, rounds_over}
@@ -6,12 +6,11 @@ use Rattle.bsp_core.proofs.Playing.{plays_append, plays_grow, round_next}
 use Rattle.bsp_core.proofs.EndsWorld.{done_over}
 use Rattle.bsp_core.proofs.world.World.round_robin.Goals as goal
 
-pub overflow_sub-result : goal.overflow_sub-result
-overflow_sub-result g c =
+pub moves_since-requires : goal.moves_since-requires
+moves_since-requires g c =
     omega (
       arith,
       c.moves-before.ensures,
-      c.moves.ensures,
       plays_grow g.N.Phased.view _ c.args.self.now c.rounds.self c.rounds.invariant.2.1,
       plays_grow g.N.Phased.view _ c.rounds.self c.sweep.new.self c.in-Ok-eq0.ensures.plays,
     )
@@ -24,22 +23,24 @@ returns-in-Ok-eq0-clause-plays g c = (
       c.rounds.invariant.2.1 c.rounds.invariant.0 c.in-Ok-eq0.ensures.plays,
 )
 
-pub returns-in-Ok-eq0-clause-count : goal.returns-in-Ok-eq0-clause-count
-returns-in-Ok-eq0-clause-count g c =
-    omega (
-      arith,
-      c.moves-before.ensures,
-      c.moves.ensures,
-      plays_grow g.N.Phased.view _ c.args.self.now c.rounds.self c.rounds.invariant.2.1,
-      plays_grow g.N.Phased.view _ c.rounds.self c.sweep.new.self c.in-Ok-eq0.ensures.plays,
-    )
-
 pub returns-in-Ok-eq0-clause-over : goal.returns-in-Ok-eq0-clause-over
 returns-in-Ok-eq0-clause-over g c plan is h =
-    done_over g.N.Phased.view (g.N.Phased.rows plan) (g.N.Phased.holds plan) (g.N.Phased.count plan) (g.met.N.Phased.rows_meet plan is)
-    (g.met.N.Phased.rows_fall plan is) c.sweep.new.self
+    done_over g.N.Phased.view _ _ _ (g.met.N.Phased.rows_meet plan is) (g.met.N.Phased.rows_fall plan is) c.sweep.new.self
     (c.in-Ok-eq0.ensures.at plan is (c.rounds.invariant.1 plan is h)) (g.met.N.Phased.few plan is).0
     (c.in-Ok-eq0.ensures.ends c.in-Ok-eq0.field-0-test)
+
+pub returns-in-Ok-eq0-clause-script : goal.returns-in-Ok-eq0-clause-script
+returns-in-Ok-eq0-clause-script g c plan is h =
+    let i = c.rounds.invariant in
+    let k = i.2.0 in
+    let n = length c.args.self.now.nodes in
+    let over = c.in-Ok-eq0.ensures.at plan is (i.1 plan is h) in
+    let more = plays_grow g.N.Phased.view _ c.rounds.self c.sweep.new.self c.in-Ok-eq0.ensures.plays in
+    rounds_over g.N.Phased.view _ _ _ (g.met.N.Phased.rows_meet plan is) (g.met.N.Phased.rows_fall plan is) c.sweep.new.self over
+    (c.in-Ok-eq0.ensures.ends c.in-Ok-eq0.field-0-test) n (c.in-Ok-eq0.ensures.nodes ∙ i.0) (suc k)
+    (c.moves_since.result + 1) c.args.self.now.moved (omega (arith, more, i.2.2, c.moves-before.ensures, c.moves_since.ensures))
+    (c.in-Ok-eq0.ensures.script plan is (i.1 plan is h)
+    ∙ round_more (g.N.Phased.rows plan) k n (length c.rounds.self.nodes) c.args.self.now.moved c.rounds.self.moved i.0 (i.2.3 plan is h))
 
 pub rounds-preserved : goal.rounds-preserved
 rounds-preserved g c =
@@ -58,21 +59,6 @@ rounds-preserved g c =
             c.rounds.invariant.0 (i.3 plan is h),
       ),
     )
-
-pub returns-in-Ok-eq0-clause-script : goal.returns-in-Ok-eq0-clause-script
-returns-in-Ok-eq0-clause-script g c plan is h =
-    let i = c.rounds.invariant in
-    let k = i.2.0 in
-    let n = length c.args.self.now.nodes in
-    let over = c.in-Ok-eq0.ensures.at plan is (i.1 plan is h) in
-    let more = plays_grow g.N.Phased.view _ c.rounds.self c.sweep.new.self c.in-Ok-eq0.ensures.plays in
-    rounds_over g.N.Phased.view (g.N.Phased.rows plan) (g.N.Phased.holds plan) (g.N.Phased.count plan) (g.met.N.Phased.rows_meet plan is)
-    (g.met.N.Phased.rows_fall plan is) c.sweep.new.self over
-    (c.in-Ok-eq0.ensures.ends c.in-Ok-eq0.field-0-test) n (c.in-Ok-eq0.ensures.nodes ∙ i.0) (suc k)
-    (c.moves.result - c.moves-before.result + 1) c.args.self.now.moved
-    (omega (arith, more, i.2.2, c.moves-before.ensures, c.moves.ensures))
-    (c.in-Ok-eq0.ensures.script plan is (i.1 plan is h)
-    ∙ round_more (g.N.Phased.rows plan) k n (length c.rounds.self.nodes) c.args.self.now.moved c.rounds.self.moved i.0 (i.2.3 plan is h))
 
 pub returns-in-Err-clause-stops : goal.returns-in-Err-clause-stops
 returns-in-Err-clause-stops g c =

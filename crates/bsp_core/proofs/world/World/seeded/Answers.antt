@@ -7,30 +7,18 @@ use Rattle.bsp_core.proofs.Playing.{move_grows, draws_grow, draws_more}
 use Rattle.bsp_core.proofs.EndsWorld.{done_over}
 use Rattle.bsp_core.proofs.world.World.seeded.Goals as goal
 
-pub overflow_sub-result : goal.overflow_sub-result
-overflow_sub-result g c =
+pub moves_since-requires : goal.moves_since-requires
+moves_since-requires g c =
     omega (
       arith,
       c.moves-before.ensures,
-      c.moves.ensures,
-      draws_grow g.N.Phased.view _ _ c.args.self.now c.draws.self _ c.draws.invariant.2.1,
-      ap (λ (z : WorldState _). length z.moved) (c.in-Ok-eq0.ensures.same c.in-Ok-eq0.field-0-test),
-    )
-
-pub returns-in-Ok-eq0-clause-count : goal.returns-in-Ok-eq0-clause-count
-returns-in-Ok-eq0-clause-count g c =
-    omega (
-      arith,
-      c.moves-before.ensures,
-      c.moves.ensures,
       draws_grow g.N.Phased.view _ _ c.args.self.now c.draws.self _ c.draws.invariant.2.1,
       ap (λ (z : WorldState _). length z.moved) (c.in-Ok-eq0.ensures.same c.in-Ok-eq0.field-0-test),
     )
 
 pub returns-in-Ok-eq0-clause-over : goal.returns-in-Ok-eq0-clause-over
 returns-in-Ok-eq0-clause-over g c plan is h =
-    done_over g.N.Phased.view (g.N.Phased.rows plan) (g.N.Phased.holds plan) (g.N.Phased.count plan) (g.met.N.Phased.rows_meet plan is)
-    (g.met.N.Phased.rows_fall plan is) c.first_from.new.self
+    done_over g.N.Phased.view _ _ _ (g.met.N.Phased.rows_meet plan is) (g.met.N.Phased.rows_fall plan is) c.first_from.new.self
     (c.in-Ok-eq0.ensures.at plan is (c.draws.invariant.1 plan is h)) (g.met.N.Phased.few plan is).0
     (c.in-Ok-eq0.ensures.ends c.in-Ok-eq0.field-0-test)
 
@@ -71,7 +59,7 @@ returns-in-Ok-eq0-clause-script g c plan is h =
     let same = ap (λ (z : WorldState _). z.moved) (c.in-Ok-eq0.ensures.same c.in-Ok-eq0.field-0-test) in
     same ∙ i.3 plan is h
     ∙ ap (λ (z : ℕ). moves_drawn (g.N.Phased.rows plan) (g.N.Phased.count plan) c.args.seed z c.args.self.now.moved)
-    (omega (arith, ap length same, i.2, c.moves-before.ensures, c.moves.ensures))
+    (omega (arith, ap length same, i.2, c.moves-before.ensures, c.moves_since.ensures))
 
 pub returns-in-Err-clause-stops : goal.returns-in-Err-clause-stops
 returns-in-Err-clause-stops g c =

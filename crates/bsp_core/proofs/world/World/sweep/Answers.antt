@@ -1,8 +1,8 @@
-use Rattle.std.proofs.Common.{◌≡◌, ℕ, [], ◌∷◌, length, arith, add-one, subst, sym, ◌∙◌, ap}
-use Rattle.bsp_core.specs.Turns.{WorldState, IsInLockstep, nodes_below}
+use Rattle.std.proofs.Common.{◌≡◌, ℕ, [], ◌∷◌, length, arith, add-one, sym, ◌∙◌, ap}
+use Rattle.bsp_core.specs.Turns.{WorldState, nodes_below}
 use Rattle.bsp_core.specs.Script.{moves_by}
 use Rattle.bsp_core.proofs.Script.{move_counts, moves_append}
-use Rattle.bsp_core.proofs.EndsWorld.{still_done}
+use Rattle.bsp_core.proofs.EndsWorld.{known_plan, still_done}
 use Rattle.bsp_core.proofs.Playing.{sweep_keeps}
 use Rattle.bsp_core.proofs.world.World.sweep.Goals as goal
 
@@ -30,14 +30,10 @@ loop-node-preserved g c =
 
 pub returns-clause-ends : goal.returns-clause-ends
 returns-clause-ends g c z =
-    let plan = c.self.invariant.1.0 in
-    let is = c.self.invariant.1.1 in
-    let old : IsInLockstep g.N.Phased.view (g.N.Phased.rows plan) (g.N.Phased.holds plan) (g.N.Phased.count plan) c.args.self.now =
-    subst (λ (w : WorldState _). IsInLockstep g.N.Phased.view (g.N.Phased.rows plan) (g.N.Phased.holds plan) (g.N.Phased.count plan) w)
-    c.self.view_is c.self.invariant.1.2 in
-    still_done g.N.Phased.view (g.N.Phased.rows plan) (g.N.Phased.holds plan) (g.N.Phased.count plan) (g.met.N.Phased.rows_meet plan is)
-    (g.met.N.Phased.rows_fall plan is) c.loop-node.self
-    (c.loop-node.invariant.2 plan is old)
+    let k = known_plan g.N.Phased.view g.N.Phased.IsPlan g.N.Phased.count g.N.Phased.rows g.N.Phased.holds _ c.args.self.now c.self.view_is
+    c.self.invariant.1 in
+    still_done g.N.Phased.view _ _ _ (g.met.N.Phased.rows_meet k.0 k.1) (g.met.N.Phased.rows_fall k.0 k.1) c.loop-node.self
+    (c.loop-node.invariant.2 k.0 k.1 k.2)
     (λ p lt. c.loop-node.invariant.5 z p (let e : length c.self.inside.nodes.items ≡ length c.args.self.now.nodes = ap
     (λ (w : WorldState _). length w.nodes) c.self.view_is in omega (arith, e, c.self.inside.nodes.ok.0)))
 

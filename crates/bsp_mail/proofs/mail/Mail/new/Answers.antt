@@ -5,8 +5,6 @@ use Rattle.bsp_mail.proofs.mail.Mail.new.Goals as goal
 
 pub returns : goal.returns
 returns c =
+    let last : c.loop-from.from ≡ 16 = omega (arith, c.loop-from.auto.from-end, c.loop-from-test.false) in
     let m = c.loop-from.mail in
-    let most = c.loop-from.auto.from-end in
-    let least = c.loop-from-test.false in
-    let last : c.loop-from.from ≡ 16 = omega (arith, most, least) in
     all_opened m.queues m.seats.items (subst (λ (k : ℕ). IsOpening m.queues m.seats.items k 0) last c.loop-from.invariant)

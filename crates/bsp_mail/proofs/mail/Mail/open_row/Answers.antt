@@ -13,8 +13,6 @@ loop-to-preserved c = elim c.if-from-to.branch [
 pub returns : goal.returns
 returns c =
     let m = c.loop-to.self in
-    let most = c.loop-to.auto.to-end in
-    let least = c.loop-to-test.false in
-    let last : c.loop-to.to ≡ 16 = omega (arith, most, least) in
+    let last : c.loop-to.to ≡ 16 = omega (arith, c.loop-to.auto.to-end, c.loop-to-test.false) in
     row_opened m.queues m.seats.items c.args.from c.requires.row (subst (λ (k : ℕ). IsOpening m.queues m.seats.items c.args.from k) last
     c.loop-to.invariant)

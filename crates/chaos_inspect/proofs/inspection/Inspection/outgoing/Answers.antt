@@ -23,7 +23,8 @@ returns-in-Fetching c = IfOk-weaker c.asks.result _ _ (λ lists e owners store t
 pub returns-in-Answering : goal.returns-in-Answering
 returns-in-Answering c = IfOk-weaker c.answers-in-Answering.result _ _ (λ lists e owners store tables h pieces pages.
     due_at c.args.self.now owners store (Answering c.in-Answering.asked) c.in-Answering.is lists
-    (e owners store tables h pieces (hand_at c.args.self.now owners store (Answering c.in-Answering.asked) c.in-Answering.is tables h).1))
+    (e owners store tables h pieces (c.as_slice.ensures
+    ∙ (hand_at c.args.self.now owners store (Answering c.in-Answering.asked) c.in-Answering.is tables h).1)))
     c.answers-in-Answering.ensures
 
 pub returns-in-Voting : goal.returns-in-Voting
@@ -35,4 +36,4 @@ pub returns-in-Homing : goal.returns-in-Homing
 returns-in-Homing c = IfOk-weaker c.home_rows.result _ _ (λ lists e owners store tables h pieces pages.
     let hand = hand_at c.args.self.now owners store (Homing c.in-Homing.told) c.in-Homing.is tables h in
     due_at c.args.self.now owners store (Homing c.in-Homing.told) c.in-Homing.is lists
-    (e owners store tables h hand.0 hand.1 (c.as_slice.ensures ∙ hand.2))) c.home_rows.ensures
+    (e owners store tables h hand.0 hand.1 (c.as_slice-in-Homing.ensures ∙ hand.2))) c.home_rows.ensures

@@ -3,9 +3,9 @@ use Rattle.std.proofs.lemmas.List.{map-set}
 use Rattle.chaos_letter.specs.declared.letter.Letter.{Letter}
 use Rattle.chaos_letter.proofs.letter_lists.LetterLists.put.Goals as goal
 
-pub returns-then-at-len : goal.returns-then-at-len
-returns-then-at-len c =
+pub returns : goal.returns
+returns c =
     let view = λ (v : Vec Letter _). v.items in
-    map-set view c.self.inside.lists.items c.args.at c.into_vec.result
-    ∙ ap (λ (l : List Letter). slice_set (map view c.self.inside.lists.items) c.args.at l) c.into_vec.ensures
+    ap (map view) c.put.ensures ∙ map-set view c.self.inside.lists c.args.at c.into_vec.result
+    ∙ ap (λ (l : List Letter). slice_set (map view c.self.inside.lists) c.args.at l) c.into_vec.ensures
     ∙ ap (λ (l : List (List Letter)). slice_set l c.args.at c.args.list) c.self.view_is

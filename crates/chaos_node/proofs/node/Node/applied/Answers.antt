@@ -1,24 +1,24 @@
 use Rattle.std.proofs.Common.{◌∙◌, List, map, ap, sym}
 use Rattle.chaos_letter.specs.declared.letter.Letter.{Letter}
 use Rattle.plan_walk.specs.Letters.{numbers_of, put_in}
-use Rattle.chaos_node.specs.Kept.{shown}
+use Rattle.chaos_node.specs.Kept.{shown_node}
 use Rattle.chaos_node.proofs.Making.{behind_small, made_by}
 use Rattle.chaos_node.proofs.ScatterEnds.{scatter_seen}
 use Rattle.chaos_node.proofs.node.Node.applied.Goals as goal
 
 pub enter_next-requires-clause-left : goal.enter_next-requires-clause-left
-enter_next-requires-clause-left c = behind_small (shown c.self.inside) c.args.self.now c.left_behind.result c.self.view_is
+enter_next-requires-clause-left c = behind_small (shown_node c.self.inside) c.args.self.now c.left_behind.result c.self.view_is
     c.left_behind.ensures c.self.invariant.left
 
 pub returns-clause-made : goal.returns-clause-made
 returns-clause-made c =
-    made_by (shown c.self.inside) c.args.self.now c.between_with-between.result.me c.left_behind.result _ c.self.view_is
+    made_by (shown_node c.self.inside) c.args.self.now c.between_with-between.result.me c.left_behind.result _ c.self.view_is
     c.between_with-between.ensures.is.node
     (sym c.left_behind.ensures) c.in_ok-entered.ensures.made c.in_ok-entered.ensures.falls
 
 pub returns-clause-right : goal.returns-clause-right
 returns-clause-right c =
-    scatter_seen c.letters_have_counts.ensures.reported c.notes_keep_the_past.ensures.writes (shown c.self.inside) c.args.self.now
+    scatter_seen c.letters_have_counts.ensures.reported c.notes_keep_the_past.ensures.writes (shown_node c.self.inside) c.args.self.now
     c.args.prepared.now c.args.executing.now
     c.in_ok-parts.parts c.in_ok-records.records c.in_ok-count.count c.between_with-between.result c.next_number.result
     c.left_behind.result c.in_ok-entered.entered c.new.result

@@ -1,6 +1,6 @@
 use Rattle.std.proofs.Common.{ap, ◌∙◌, subst, sym}
 use Rattle.bsp_core.specs.Views.{Face}
-use Rattle.chaos_entering.specs.Coming.{CanStand, face_of}
+use Rattle.chaos_entering.specs.Coming.{CanStand, face_entered}
 use Rattle.chaos_node.proofs.Committed.{state_committed}
 use Rattle.chaos_node.proofs.node.Node.commit.Goals as goal
 
@@ -11,7 +11,7 @@ pub put-requires : goal.put-requires
 put-requires c = subst (λ (f : Face). CanStand f.me f.count c.args.change.entered) (sym c.record.ensures.face) c.requires.stands
 
 pub returns-in-Ok-clause-face : goal.returns-in-Ok-clause-face
-returns-in-Ok-clause-face c = c.put.ensures.face ∙ ap (λ (f : Face). face_of f.me f.count c.args.change.entered) c.record.ensures.face
+returns-in-Ok-clause-face c = c.put.ensures.face ∙ ap (λ (f : Face). face_entered f.me f.count c.args.change.entered) c.record.ensures.face
 
 pub returns-in-Ok-clause-state : goal.returns-in-Ok-clause-state
 returns-in-Ok-clause-state c =

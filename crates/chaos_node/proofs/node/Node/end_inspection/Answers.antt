@@ -5,7 +5,7 @@ use Rattle.chaos_entering.specs.State.{NodeState}
 use Rattle.chaos_entering.specs.declared.activity.Activity.TheVariants as activity
 use Rattle.plan_walk.specs.Letters.{numbers_of, put_in}
 use Rattle.chaos_node.specs.Inspections.{EndsPhase}
-use Rattle.chaos_node.specs.Kept.{shown}
+use Rattle.chaos_node.specs.Kept.{shown_node}
 use Rattle.chaos_node.proofs.InspectionComes.{copy_ends, tables_are_there}
 use Rattle.chaos_node.proofs.node.Node.end_inspection.Goals as goal
 
@@ -21,7 +21,7 @@ refuse-requires-clause-told c = (
   c.incoming.new.tables,
   sym c.offence.ensures ∙ c.in-Some.is,
   (subst (λ x. EndsPhase x c.incoming.new.self c.incoming.new.tables) c.self.view_is
-      (copy_ends (shown c.self.inside) c.in_ok-inspection.inspection c.incoming.new.self c.args.inspection.now c.in_ok-tables.tables
+      (copy_ends (shown_node c.self.inside) c.in_ok-inspection.inspection c.incoming.new.self c.args.inspection.now c.in_ok-tables.tables
       c.incoming.new.tables c.in_ok-taken.taken
       c.facts_are_known.ensures.steps (subst (λ (x : View NodeState). x.state.at.activity ≡ activity.Inspecting c.args.inspection.now)
       (sym c.self.view_is) c.requires.at)
@@ -35,7 +35,7 @@ refuse-requires-clause-told c = (
 pub go_on_inspecting-requires-clause-ends : goal.go_on_inspecting-requires-clause-ends
 go_on_inspecting-requires-clause-ends c =
     (subst (λ x. EndsPhase x c.incoming.new.self c.incoming.new.tables) c.self.view_is
-    (copy_ends (shown c.self.inside) c.in_ok-inspection.inspection c.incoming.new.self c.args.inspection.now c.in_ok-tables.tables
+    (copy_ends (shown_node c.self.inside) c.in_ok-inspection.inspection c.incoming.new.self c.args.inspection.now c.in_ok-tables.tables
     c.incoming.new.tables c.in_ok-taken.taken
     c.facts_are_known.ensures.steps (subst (λ (x : View NodeState). x.state.at.activity ≡ activity.Inspecting c.args.inspection.now)
     (sym c.self.view_is) c.requires.at)

@@ -1,5 +1,5 @@
 use Rattle.std.proofs.Common.{sym}
-use Rattle.chaos_node.specs.Kept.{shown}
+use Rattle.chaos_node.specs.Kept.{shown_node}
 use Rattle.chaos_node.proofs.GatherEnds.{never_gathers, site_there, turn_there}
 use Rattle.chaos_node.proofs.node.Node.gathered.Goals as goal
 

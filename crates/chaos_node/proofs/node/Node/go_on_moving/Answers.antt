@@ -1,7 +1,7 @@
 use Rattle.std.specs.Prelude.{◌-◌}
 use Rattle.std.proofs.Common.{sym, subst}
 use Rattle.chaos_holdings.specs.declared.effect.Effect.TheVariants.{Nothing}
-use Rattle.chaos_node.specs.Kept.{shown}
+use Rattle.chaos_node.specs.Kept.{shown_node}
 use Rattle.chaos_node.specs.Moves.{EndsStage}
 use Rattle.chaos_node.specs.Printed.{one_back, still_small}
 use Rattle.chaos_node.proofs.MoveGoesOn.{EntersMove, move_goes_on}
@@ -23,7 +23,7 @@ returns-clause-made c =
 pub returns-clause-right : goal.returns-clause-right
 returns-clause-right c =
     let s = c.self.inside in
-    let v = shown s in
+    let v = shown_node s in
     let m = c.args.moving in
     let e = c.in_ok-entered.entered in
     right_seen s c.args.self.now (record { effect = Nothing; line = c.new.result; entered = e }) c.self.view_is

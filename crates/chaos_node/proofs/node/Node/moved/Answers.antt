@@ -3,7 +3,7 @@ use Rattle.std.proofs.Common.{ap, ◌∙◌, sym, subst}
 use Rattle.chaos_entering.specs.Coming.{CanStand}
 use Rattle.chaos_holdings.specs.Parts.{parts_with}
 use Rattle.chaos_holdings.specs.declared.effect.Effect.TheVariants.{Moves}
-use Rattle.chaos_node.specs.Kept.{shown}
+use Rattle.chaos_node.specs.Kept.{shown_node}
 use Rattle.chaos_node.specs.Moves.{EndsStage}
 use Rattle.chaos_node.specs.Printed.{one_back, still_small}
 use Rattle.chaos_node.proofs.MoveOver.{move_is_over}
@@ -33,7 +33,7 @@ returns-clause-made c =
 pub returns-clause-right : goal.returns-clause-right
 returns-clause-right c =
     let s = c.self.inside in
-    let v = shown s in
+    let v = shown_node s in
     let m = c.args.moving in
     let x = c.finish-moved.result in
     let e = c.in_ok-entered.entered in

@@ -2,7 +2,7 @@ use Rattle.std.specs.Prelude.{◌-◌, None}
 use Rattle.std.proofs.Common.{sym, subst}
 use Rattle.chaos_holdings.specs.declared.effect.Effect.TheVariants.{Inspects}
 use Rattle.chaos_node.specs.Inspections.{EndsPhase}
-use Rattle.chaos_node.specs.Kept.{shown}
+use Rattle.chaos_node.specs.Kept.{shown_node}
 use Rattle.chaos_node.specs.Printed.{one_back, still_small}
 use Rattle.chaos_node.proofs.InspectionGoesOn.{EntersInspection, inspection_goes_on}
 use Rattle.chaos_node.proofs.Seen.{has_left, less_made, no_line, right_seen}
@@ -26,7 +26,7 @@ returns-clause-made c =
 pub returns-clause-right : goal.returns-clause-right
 returns-clause-right c =
     let s = c.self.inside in
-    let v = shown s in
+    let v = shown_node s in
     let i = c.args.inspection in
     let tables = c.args.tables in
     let e = c.in_ok-entered.entered in

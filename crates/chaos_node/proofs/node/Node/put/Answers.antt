@@ -1,6 +1,6 @@
 use Rattle.std.proofs.Common.{ap, ◌∙◌, subst, sym}
 use Rattle.bsp_core.specs.Views.{Face}
-use Rattle.chaos_entering.specs.Coming.{CanStand, face_of}
+use Rattle.chaos_entering.specs.Coming.{CanStand, face_entered}
 use Rattle.chaos_node.proofs.Committed.{state_put}
 use Rattle.chaos_node.proofs.node.Node.put.Goals as goal
 
@@ -10,7 +10,8 @@ install-requires c =
     c.requires
 
 pub returns-clause-face : goal.returns-clause-face
-returns-clause-face c = c.install.ensures.face ∙ ap (λ (f : Face). face_of f.me f.count c.args.change.entered) (c.forget_kept.ensures.face
+returns-clause-face c = c.install.ensures.face
+    ∙ ap (λ (f : Face). face_entered f.me f.count c.args.change.entered) (c.forget_kept.ensures.face
     ∙ c.take_changes.ensures.face)
 
 pub returns-clause-state : goal.returns-clause-state

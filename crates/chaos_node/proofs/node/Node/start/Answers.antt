@@ -1,7 +1,7 @@
 use Rattle.std.proofs.Common.{refl, [], None, ap, sym, ◌∙◌, replicate}
 use Rattle.fd_program.specs.Reports.{no_count}
 use Rattle.fd_program.specs.Trace.{trace_of}
-use Rattle.chaos_entering.specs.Coming.{noted}
+use Rattle.chaos_entering.specs.Coming.{noted_if}
 use Rattle.chaos_entering.specs.Standing.{session_in}
 use Rattle.chaos_entering.specs.State.{NodeState}
 use Rattle.chaos_holdings.specs.declared.session.NodeEnd.{NodeEnd}
@@ -32,7 +32,8 @@ returns c =
       kept = covers_same _ h.kept c.as_slice.ensures;
     }) refl next)
     (face ∙ c.node_with-node.ensures.face)
-    (state ∙ ap (λ (st : NodeState). record st { inspected = noted e.begins e.at.execution st.inspected }) c.node_with-node.ensures.state))
+    (state ∙ ap (λ (st : NodeState). record st { inspected = noted_if e.begins e.at.execution st.inspected })
+    c.node_with-node.ensures.state))
     c.noting.ensures.face c.noting.ensures.state
 
 pub noting-requires : goal.noting-requires

@@ -1,6 +1,6 @@
-use Rattle.std.proofs.Common.{◌≡◌, ◌≤◌, ◌+◌, length, ◌*◌}
-use Rattle.fd_syntax.specs.declared.scalar.Scalar.{Scalar}
-use Rattle.fd_grammar.specs.Machine.{Calm, Then, MoreScalarTerms, MoreScalarFactors, run}
+use Rattle.std.proofs.Common.{◌+◌, ◌*◌, length}
+use Rattle.fd_grammar.specs.Machine.{Then, MoreScalarTerms, MoreScalarFactors}
+use Rattle.fd_expressions.specs.Reads.{ReadsUntil}
 use Rattle.fd_expressions.proofs.parser.Parser.+scalar.Given as goal
 
 abbrev pub decreases-scalar_factor : goal.decreases-scalar_factor
@@ -19,21 +19,15 @@ abbrev pub decreases-scalar : goal.decreases-scalar
 decreases-scalar l = 5 * length l.self.now.rest.now + 4
 
 abbrev pub invariant-more_scalar_terms-loop-self : goal.invariant-more_scalar_terms-loop-self
-invariant-more_scalar_terms-loop-self l = record {
-  shrinks : length l.self.rest.now ≤ length l.fn.self.rest.now;
-  reads : (k : Scalar → Calm) → run l.fn.self.rest.now (Then (MoreScalarTerms l.fn.first k)) ≡ run l.self.rest.now
-      (Then (MoreScalarTerms l.left k));
-}
+invariant-more_scalar_terms-loop-self l =
+    ReadsUntil (λ k. Then (MoreScalarTerms l.fn.first k)) (λ k. Then (MoreScalarTerms l.left k)) l.fn.self.rest.now l.self.rest.now
 
 abbrev pub decreases-more_scalar_terms-loop-self : goal.decreases-more_scalar_terms-loop-self
 decreases-more_scalar_terms-loop-self l = length l.self.rest.now
 
 abbrev pub invariant-more_scalar_factors-loop-self : goal.invariant-more_scalar_factors-loop-self
-invariant-more_scalar_factors-loop-self l = record {
-  shrinks : length l.self.rest.now ≤ length l.fn.self.rest.now;
-  reads : (k : Scalar → Calm) → run l.fn.self.rest.now (Then (MoreScalarFactors l.fn.first k)) ≡ run l.self.rest.now
-      (Then (MoreScalarFactors l.left k));
-}
+invariant-more_scalar_factors-loop-self l =
+    ReadsUntil (λ k. Then (MoreScalarFactors l.fn.first k)) (λ k. Then (MoreScalarFactors l.left k)) l.fn.self.rest.now l.self.rest.now
 
 abbrev pub decreases-more_scalar_factors-loop-self : goal.decreases-more_scalar_factors-loop-self
 decreases-more_scalar_factors-loop-self l = length l.self.rest.now

@@ -1,13 +1,10 @@
-use Rattle.std.proofs.Common.{◌≡◌, ◌≤◌, List, length}
-use Rattle.fd_syntax.specs.declared.scalar.Term.{Term}
-use Rattle.fd_grammar.specs.Machine.{Calm, Then, Offset, MoreOffset, run}
+use Rattle.std.proofs.Common.{length}
+use Rattle.fd_grammar.specs.Machine.{Then, Offset, MoreOffset}
+use Rattle.fd_expressions.specs.Reads.{ReadsUntil}
 use Rattle.fd_expressions.proofs.parser.Parser.offset.Given as goal
 
 abbrev pub invariant-loop-self : goal.invariant-loop-self
-invariant-loop-self l = record {
-  shrinks : length l.self.rest.now ≤ length l.fn.self.rest.now;
-  reads : (k : List Term → Calm) → run l.fn.self.rest.now (Then (Offset k)) ≡ run l.self.rest.now (Then (MoreOffset l.terms k));
-}
+invariant-loop-self l = ReadsUntil (λ k. Then (Offset k)) (λ k. Then (MoreOffset l.terms k)) l.fn.self.rest.now l.self.rest.now
 
 abbrev pub decreases-loop-self : goal.decreases-loop-self
 decreases-loop-self l = length l.self.rest.now

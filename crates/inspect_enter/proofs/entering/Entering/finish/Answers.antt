@@ -3,7 +3,7 @@ use Rattle.std.specs.List.{AllZip}
 use Rattle.plan_tables.specs.Fits.{StandsFor, IsOwn, IsOther, AreItems}
 use Rattle.fd_program.specs.Met.{kept_uses}
 use Rattle.inspect_enter.proofs.Asked as asked
-use Rattle.plan_tables.specs.Tables.{slots_of}
+use Rattle.plan_tables.specs.Tables.{slots_entered}
 use Rattle.chaos_sched.specs.declared.schedule.Schedule.{Schedule}
 use Rattle.fd_program.specs.Homes.{needed_of, given_of}
 use Rattle.inspect_enter.proofs.entering.Entering.finish.Goals as goal
@@ -11,7 +11,7 @@ use Rattle.inspect_enter.proofs.entering.Entering.finish.Goals as goal
 pub returns : goal.returns
 returns c = λ owners store p tables settled entering taken.
     let f = c.args.facts.now in
-    let slots = slots_of f tables in
+    let slots = slots_entered f tables in
     record {
       iterations = c.in_ok-iterations.ensures ∙ entering.iterations;
       references = subst (λ its. AllZip (StandsFor f owners slots p) (kept_uses f store its) c.in_ok-references.references)

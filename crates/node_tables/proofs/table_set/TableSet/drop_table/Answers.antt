@@ -1,5 +1,3 @@
-use Rattle.std.proofs.Common.{◌≡◌, ◌<◌, length, subst, sym}
-use Rattle.plan_tables.specs.Tables.{table_at}
 use Rattle.node_tables.proofs.Sets as set
 use Rattle.node_tables.proofs.table_set.TableSet.drop_table.Goals as goal
 
@@ -10,8 +8,5 @@ invariant_of-self c =
 
 pub returns : goal.returns
 returns c =
-    let is : c.index_mut-table.result.now ≡ table_at c.self.inside.tables.items c.args.decomposition =
-    set.lent c.self.inside.tables.items c.args.decomposition c.index_mut-table.result.now
-    (subst (λ ts. c.args.decomposition < length ts) (sym c.self.view_is) c.requires) c.index_mut-table.ensures.value in
     set.dropped_is c.self.inside.tables.items c.args.self.now c.self.view_is c.args.decomposition c.index_mut-table.result.now
-    c.drop_all.new.self is c.drop_all.ensures.held c.drop_all.ensures.peak
+    c.requires c.index_mut-table.ensures.value c.drop_all.new.self c.drop_all.ensures.held c.drop_all.ensures.peak
