@@ -20,6 +20,7 @@ use Rattle.chaos_dist.proofs.step_form.StepForm.TheSendSync.{the_field_sync as S
 use Rattle.inspect_places.proofs.asked.Asked.TheSendSync.{the_field_send as Asked-field_send}
 use Rattle.chaos_inspect.proofs.spot.Spot.TheSendSync.{the_send as Spot-send}
 use Rattle.chaos_inspect.proofs.stage.Stage.TheSendSync.{the_field_send as Stage-field_send}
+use Rattle.chaos_move.proofs.undo.Undo.TheSendSync.{the_send as Undo-send}
 use Rattle.chaos_moving.proofs.moving.Moving.TheSendSync.{the_field_send as Moving-field_send}
 use Rattle.chaos_executing.proofs.executing.Executing.TheSendSync.{the_field_send as Executing-field_send}
 use Rattle.chaos_holdings.proofs.holdings.Holdings.TheSendSync.{the_field_send as Holdings-field_send}
@@ -133,6 +134,7 @@ Inside-send l = search (
   NodeEnd-field_send,
   Letter-send,
   Wanted-send,
+  Undo-send,
 ) depth 20
 
 pub Node-send : (l : NamedLft) → IsSend (Node.the_row l)

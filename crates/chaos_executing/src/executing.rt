@@ -1,10 +1,11 @@
-ghost use Rattle.std.specs.Prelude.{◌≡◌, ℕ, List, IfOk};
+ghost use Rattle.std.specs.Prelude.{◌≡◌, ℕ, List, IfOk, OnOk};
 ghost use Rattle.fd_program.specs.Layouts.{Scene, loop_at, owners_at, store_at};
 ghost use Rattle.fd_program.specs.Loops.{after_loop};
 ghost use Rattle.fd_program.specs.Places.{parts_of};
 ghost use Rattle.fd_program.specs.Trace.{site_at};
 ghost use Rattle.fd_program.specs.declared.trace.LoopTurn.{LoopTurn};
 ghost use Rattle.fd_program.specs.declared.trace.Step.{Step};
+ghost use Rattle.chaos_move.specs.Undoing.{taken_back};
 ghost use Rattle.chaos_hash.specs.Stamps.{Stamps};
 ghost use Rattle.plan_loop.specs.declared.loop_phase.LoopPhase.TheVariants.{Gather, Scatter};
 ghost use Rattle.chaos_executing.specs.InRun.{CanExecute, IsExecuting, sent_at_loop, owed_at_loop};
@@ -12,6 +13,7 @@ ghost use Rattle.chaos_executing.specs.InRun.{CanExecute, IsExecuting, sent_at_l
 use crate::ghosts::empty_ghosts;
 use crate::letters::{change_pieces, given_values, read_values, take_ghosts};
 use chaos_execute::{PendingValues, compute};
+use chaos_move::Undo;
 use chaos_sched::Prepared;
 use fd_program::LoopFacts;
 use fd_words::{Memory, NumberLists};
@@ -79,23 +81,23 @@ pub fn scatter_lists(
     Ok(lists)
 }
 
-/// Ends the Scatter phase: the node's pieces after the loop, from those before it. Where a letter is
-/// too long or too short, they are those before it.
-pub fn applied(
-    alloc: Global,
+/// Ends the Scatter phase: the node's pieces become those after the loop. Where a letter is too long or
+/// too short, they stay. What stood there is kept in `undo`, also of the writes before a want of memory.
+pub fn apply_contributions(
     prepared: &Prepared,
     executing: &Executing,
     taken: &NumberLists,
-    pieces: &NumberLists,
-) -> Result<NumberLists, Memory>
-    ensures { IfOk result (λ after. (s : Scene) (past : List Step) (site : ℕ) (turn : LoopTurn) (p : ℕ) (tables : List Stamps)
+    pieces: &mut NumberLists,
+    undo: &mut Undo,
+) -> Result<(), Memory>
+    ensures ok { OnOk result ((s : Scene) (past : List Step) (site : ℕ) (turn : LoopTurn) (p : ℕ) (tables : List Stamps)
         → IsExecuting s past site turn p tables prepared.now executing.now
-        → pieces.now ≡ parts_of s.checked.arrays (owners_at s past) (store_at s past) p
+        → pieces.old ≡ parts_of s.checked.arrays (owners_at s past) (store_at s past) p
         → taken.now ≡ owed_at_loop s past site turn Scatter p
-        → after ≡ parts_of s.checked.arrays (owners_at s past) (after_loop s.checked.arrays (site_at s.checked.sites site) turn
+        → pieces.new ≡ parts_of s.checked.arrays (owners_at s past) (after_loop s.checked.arrays (site_at s.checked.sites site) turn
         (store_at s past)) p) }
+    ensures back { taken_back undo.new pieces.new ≡ taken_back undo.old pieces.old }
 {
-    let mut after = pieces.copy(alloc)?;
-    change_pieces(prepared, &executing.pending, taken, &mut after);
-    Ok(after)
+    change_pieces(prepared, &executing.pending, taken, pieces, undo)?;
+    Ok(())
 }

@@ -1,11 +1,13 @@
 //! The executor's calls, each made only where the letters and items are as it wants them.
-ghost use Rattle.std.specs.Prelude.{◌≡◌, map, IfOk};
+ghost use Rattle.std.specs.Prelude.{◌≡◌, map, IfOk, OnOk};
 ghost use Rattle.chaos_move.specs.Moves.{packed, packed_combined};
+ghost use Rattle.chaos_move.specs.Undoing.{taken_back};
 ghost use Rattle.chaos_execute.specs.Letters.{HasRows, after_apply, gathered};
 ghost use Rattle.chaos_execute.specs.Ready.{AreSmall};
 
 use crate::rows::{in_rows, small};
 use chaos_execute::{PendingValues, apply, gather_in, gather_out, scatter_out};
+use chaos_move::Undo;
 use chaos_sched::Prepared;
 use fd_words::{Memory, NumberLists};
 use std::alloc::Global;
@@ -53,17 +55,21 @@ pub(crate) fn given_values(
 }
 
 /// Changes the pieces by the node's own values and those of the letters; not at all where a letter is
-/// too long or too short.
+/// too long or too short. What stood there is kept, also of the writes before a want of memory.
 pub(crate) fn change_pieces(
     prepared: &Prepared,
     pending: &PendingValues,
     taken: &NumberLists,
     pieces: &mut NumberLists,
-)
-    ensures { HasRows taken.now prepared.now.schedule.scatter_take → pieces.new ≡ after_apply prepared.now pending.now taken.now
-        pieces.old }
+    undo: &mut Undo,
+) -> Result<(), Memory>
+    ensures ok { OnOk result (HasRows taken.now prepared.now.schedule.scatter_take
+        → pieces.new ≡ after_apply prepared.now pending.now taken.now pieces.old) }
+    ensures back { taken_back undo.new pieces.new ≡ taken_back undo.old pieces.old }
 {
     if in_rows(taken, &prepared.schedule.scatter_take) {
-        apply(prepared, pending, taken, pieces);
+        apply(prepared, pending, taken, pieces, undo)
+    } else {
+        Ok(())
     }
 }

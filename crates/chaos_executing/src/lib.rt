@@ -14,5 +14,5 @@ mod letters;
 mod rows;
 
 pub use counts::{counts_of, gather_counts, scatter_counts};
-pub use executing::{Executing, applied, execute, gather_lists, scatter_lists};
+pub use executing::{Executing, apply_contributions, execute, gather_lists, scatter_lists};
 pub use laws::letters_have_counts;

@@ -8,9 +8,11 @@ mod laws;
 mod operators;
 mod outgoing;
 mod rows;
+mod undo;
 
 pub use apply::apply_combined;
 pub use incoming::unpack;
 pub use laws::move_laws;
 pub use operators::{Operators, change, operator_of};
 pub use outgoing::{pack, pack_combined};
+pub use undo::{Kept, Undo};

@@ -17,3 +17,4 @@ pub mod ScatterEnds
 pub mod Seen
 pub mod Started
 pub mod Working
+pub mod Scattering

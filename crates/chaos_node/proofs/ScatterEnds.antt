@@ -224,9 +224,9 @@ scatter_ends reported writes v prepared x parts records count between from left 
 -- the same, seen from the node's fields
 pub scatter_seen : CountsAreReported → WritesKeep → (v w : View NodeState) (prepared : Prepared) (x : Executing) (parts : List (List ℤ))
     (records : Records) (count : SiteCount)
-    (between : Between) (from left : ℕ) (e : Entered) (line : List ℕ) (taken : List (List ℤ)) (sites : List Site) → v ≡ w
+    (between : Between) (from left : ℕ) (e : Entered) (taken : List (List ℤ)) (sites : List Site) → v ≡ w
     → w.state.at.activity ≡ Scattering x
-    → prepared_in w.state.holdings.kept w.state.at.site ≡ Some prepared → w.face.left ≡ left + 1 → line ≡ []
+    → prepared_in w.state.holdings.kept w.state.at.site ≡ Some prepared → w.face.left ≡ left + 1
     → taken ≡ put_in v.face.me v.state.at.own (map numbers_of v.face.got) → AppliesRight prepared x taken v.state.holdings.parts parts
     → sites ≡ v.state.session.checked.sites
     → (v.state.at.execution < 2 ^ 32 → records ≡ fold (noted_reference v.state.at.execution) v.state.holdings.records
@@ -234,11 +234,10 @@ pub scatter_seen : CountsAreReported → WritesKeep → (v w : View NodeState) (
     → count ≡ count_behind w.state prepared → LooksWith w.state w.face.me v.state.holdings.elements parts records between
     → (w.state.at.execution < 2 ^ 32 → from ≡ w.state.at.execution + 1) → EntersNext v.state.session between v.state.holdings.pages from
     left e
-    → ChangesRight w (record { effect = Executes parts records count; line = line; entered = e })
-scatter_seen reported writes v w prepared x parts records count between from left e line taken sites same at kept less none taken_is
+    → ChangesRight w (record { effect = Executes parts records count; line = []; entered = e })
+scatter_seen reported writes v w prepared x parts records count between from left e taken sites same at kept less taken_is
     applies sites_are notes count_is looks number enters =
-    subst (λ (l : List ℕ). ChangesRight w (record { effect = Executes parts records count; line = l; entered = e })) (sym none)
-    (scatter_ends reported writes w prepared x parts records count between from left e (record {
+    scatter_ends reported writes w prepared x parts records count between from left e (record {
       at = at;
       kept = kept;
       less = less;
@@ -255,4 +254,4 @@ scatter_seen reported writes v w prepared x parts records count between from lef
       looks = subst (λ (y : View NodeState). LooksWith w.state w.face.me y.state.holdings.elements parts records between) same looks;
       number = number;
       enters = subst (λ (y : View NodeState). EntersNext y.state.session between y.state.holdings.pages from left e) same enters;
-    }))
+    })

@@ -113,7 +113,12 @@ impl<'a> Node<'a> {
     }
 
     /// Notes an inspection that begins and writes the line; where memory is wanting nothing has changed.
-    fn record(&mut self, begins: bool, execution: u64, line: &Bytes) -> Result<(), Memory>
+    pub(crate) fn record(
+        &mut self,
+        begins: bool,
+        execution: u64,
+        line: &Bytes,
+    ) -> Result<(), Memory>
         requires { begins ≡ true → execution < 2 ^ 63 }
         ensures face { self.new.face ≡ self.old.face }
         ensures ok { OnOk result (self.new.state ≡ recorded begins execution line.now self.old.state) }
@@ -130,7 +135,7 @@ impl<'a> Node<'a> {
     }
 
     /// Puts what was prepared in place, which takes no memory.
-    fn put(&mut self, change: Change)
+    pub(crate) fn put(&mut self, change: Change)
         requires { CanStand self.old.face.me self.old.face.count change.entered }
         ensures face { self.new.face ≡ face_entered self.old.face.me self.old.face.count change.entered }
         ensures state { self.new.state ≡ put_in_place change self.old.state }

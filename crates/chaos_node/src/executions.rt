@@ -5,20 +5,16 @@ ghost use Rattle.bsp_core.specs.declared.phased.Want.TheVariants.{Work};
 ghost use Rattle.chaos_entering.specs.declared.activity.Activity.TheVariants as activity;
 ghost use Rattle.chaos_node.specs.Changing.{CanBeMade, ChangesRight};
 ghost use Rattle.chaos_holdings.specs.Executions.{turn_in};
-ghost use Rattle.chaos_node.specs.Executions.{count_behind};
 ghost use Rattle.chaos_holdings.specs.Keeping.{prepared_in};
 
 use crate::change::Change;
 use crate::node::Node;
-use chaos_entering::{enter_end, enter_next, enter_scatter};
-use chaos_executing::{Executing, applied, execute, letters_have_counts};
+use chaos_entering::{enter_end, enter_scatter};
+use chaos_executing::execute;
 use chaos_facts::{facts_are_known, facts_of};
-use chaos_holdings::{
-    Effect, count_at, counted, is_latest, kept_of, records_of_execution, turn_at,
-};
-use chaos_records::notes_keep_the_past;
+use chaos_holdings::{Effect, kept_of, turn_at};
 use chaos_sched::Prepared;
-use fd_program::{LoopTurn, SiteCount};
+use fd_program::LoopTurn;
 use fd_words::{Bytes, Memory};
 use plan_walk::taken_lists;
 
@@ -31,7 +27,7 @@ impl<'a> Node<'a> {
     }
 
     /// How many phases can come behind this one.
-    fn left_behind(&self) -> u32
+    pub(crate) fn left_behind(&self) -> u32
         requires { next_of self.now.face ≡ Work }
         ensures { self.now.face.left ≡ result + 1 }
     {
@@ -127,75 +123,6 @@ impl<'a> Node<'a> {
         )?;
         Ok(Change {
             effect: Effect::Nothing,
-            line: Bytes::new(self.alloc),
-            entered,
-        })
-    }
-
-    /// What the FORALL counts after the present execution, which inspected where it is the last of those.
-    fn count_after(&self, prepared: &Prepared) -> Result<SiteCount, Memory>
-        ensures { IfOk result (λ count. count ≡ count_behind self.now.state prepared.now) }
-    {
-        let before = count_at(self.end.counts.as_slice(), self.at.site);
-        let inspects = is_latest(self.inspected.as_slice(), self.at.execution);
-        counted(&before, prepared, inspects)
-    }
-
-    /// Ends the phase in which contributions are scattered: the parts are those after the loop, and the
-    /// next step begins.
-    pub(crate) fn end_scatter(&self, executing: &Executing) -> Result<Change, Memory>
-        requires work { next_of self.now.face ≡ Work }
-        requires at { self.now.state.at.activity ≡ activity.Scattering executing.now }
-        ensures made { IfOk result (CanBeMade self.now) }
-        ensures right { IfOk result (ChangesRight self.now) }
-    {
-        match kept_of(self.holdings.kept.as_slice(), self.at.site) {
-            Some(prepared) => self.applied(prepared, executing),
-            None => Ok(self.stop()),
-        }
-    }
-
-    /// The parts are those after the loop.
-    fn applied(&self, prepared: &Prepared, executing: &Executing) -> Result<Change, Memory>
-        requires work { next_of self.now.face ≡ Work }
-        requires at { self.now.state.at.activity ≡ activity.Scattering executing.now }
-        requires kept { prepared_in self.now.state.holdings.kept self.now.state.at.site ≡ Some prepared.now }
-        ensures made { IfOk result (CanBeMade self.now) }
-        ensures right { IfOk result (ChangesRight self.now) }
-    {
-        letters_have_counts();
-        notes_keep_the_past();
-        let taken = taken_lists(self.alloc, self.me, &self.at.own, self.got.as_slice())?;
-        let parts = applied(
-            self.alloc,
-            prepared,
-            executing,
-            &taken,
-            &self.holdings.parts,
-        )?;
-        let records = records_of_execution(
-            self.alloc,
-            &self.holdings.records,
-            self.session.checked.sites.as_slice(),
-            self.at.site,
-            self.at.execution,
-        )?;
-        let count = self.count_after(prepared)?;
-        let between = self.between_with(&self.holdings.elements, &parts, &records);
-        let entered = enter_next(
-            self.alloc,
-            self.session,
-            &between,
-            &self.holdings.pages,
-            self.next_number(),
-            self.left_behind(),
-        )?;
-        Ok(Change {
-            effect: Effect::Executes {
-                parts,
-                records,
-                count,
-            },
             line: Bytes::new(self.alloc),
             entered,
         })

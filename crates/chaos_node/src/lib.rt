@@ -13,6 +13,7 @@ mod moves;
 mod node;
 mod phased;
 mod prints;
+mod scatters;
 mod starting;
 
 pub use laws::nodes_end_with_the_run;

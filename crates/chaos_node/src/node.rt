@@ -7,6 +7,7 @@ use bsp_core::{Phased, TakeFault, Want};
 use chaos_entering::At;
 use chaos_holdings::{Holdings, NodeEnd, Session};
 use chaos_letter::{Letter, Wanted};
+use chaos_move::Undo;
 use fd_words::{Bytes, Memory, Numbers};
 use std::alloc::Global;
 use std::collections::VecDeque;
@@ -27,6 +28,8 @@ pub struct Node<'a> {
     pub(crate) out: VecDeque<(u32, Letter)>,
     pub(crate) due: VecDeque<(u32, Wanted)>,
     pub(crate) got: Vec<Letter>,
+    /// Empty between works; its room stays from step to step.
+    pub(crate) undo: Undo,
 }
 
 impl<'a> Model for Node<'a> {

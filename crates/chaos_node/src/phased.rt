@@ -1,7 +1,7 @@
-ghost use Rattle.std.specs.Prelude.{◌≡◌, ◌<◌, IfOk};
+ghost use Rattle.std.specs.Prelude.{◌≡◌, ◌<◌, false, is_some, IfOk};
 ghost use Rattle.bsp_core.specs.Views.{next_of};
 ghost use Rattle.bsp_core.specs.declared.phased.Want.TheVariants.{Work};
-ghost use Rattle.chaos_node.specs.Changing.{CanBeMade, ChangesRight};
+ghost use Rattle.chaos_node.specs.Changing.{CanBeMade, ChangesRight, executing_in};
 
 use crate::change::Change;
 use crate::node::Node;
@@ -13,7 +13,8 @@ use fd_words::Memory;
 impl<'a> Node<'a> {
     /// All that the end of the present phase changes.
     fn change(&self) -> Result<Change, Memory>
-        requires { next_of self.now.face ≡ Work }
+        requires work { next_of self.now.face ≡ Work }
+        requires at { is_some (executing_in self.now.state.at.activity) ≡ false }
         ensures made { IfOk result (CanBeMade self.now) }
         ensures right { IfOk result (ChangesRight self.now) }
     {
@@ -23,7 +24,7 @@ impl<'a> Node<'a> {
             Activity::Moving(moving) => self.end_move(moving),
             Activity::Inspecting(inspection) => self.end_inspection(inspection),
             Activity::Gathering => self.end_gather(),
-            Activity::Scattering(executing) => self.end_scatter(executing),
+            Activity::Scattering(_) => Ok(self.stop()),
             Activity::Ended => Ok(self.stop()),
         }
     }
@@ -65,6 +66,9 @@ impl<'a> Phased for Node<'a> {
     }
 
     fn work(&mut self) -> Result<(), Memory> {
+        if self.is_scattering() {
+            return self.end_execution();
+        }
         let change = self.change()?;
         self.commit(change)
     }

@@ -15,6 +15,7 @@ use chaos_begin::Between;
 use chaos_count::phases_of;
 use chaos_entering::{Entered, enter_next};
 use chaos_holdings::{Holdings, NodeEnd, Session, counts_of_none, first_holdings};
+use chaos_move::Undo;
 use fd_words::{Bytes, Memory, NumberLists, Numbers};
 use std::alloc::Global;
 
@@ -91,6 +92,7 @@ fn node_with<'a>(
         out,
         due,
         got,
+        undo: Undo::new(alloc),
     }
 }
 

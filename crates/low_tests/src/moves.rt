@@ -24,7 +24,7 @@ fn has(lists: &NumberLists, values: &[i64]) -> bool {
 }
 
 // the least of Y(2), which is 5, and 9: node 0 gives the 9 from slot 0 to node 1; the next letter names
-// another element
+// another element; what the last has written is taken back
 #[test]
 fn scatters_into_the_old_value(rt: HostRuntime) -> Result<(), Fail> {
     let alloc = rt.alloc();
@@ -40,7 +40,8 @@ fn scatters_into_the_old_value(rt: HostRuntime) -> Result<(), Fail> {
 
     let least = Operators::from_vec(Vec::from_slice(alloc, [Some(Combine::Min)].as_slice())?);
     let mut pieces = one_list(alloc, [5].as_slice())?;
-    apply_combined(&letter, &items, &least, &mut pieces);
+    let mut undo = Undo::new(alloc);
+    apply_combined(&letter, &items, &least, &mut pieces, &mut undo)?;
     assert!(rt; has(&pieces, [5].as_slice()));
 
     let assigned = Operators::from_vec(Vec::from_slice(alloc, [None].as_slice())?);
@@ -49,10 +50,14 @@ fn scatters_into_the_old_value(rt: HostRuntime) -> Result<(), Fail> {
         &items,
         &assigned,
         &mut pieces,
-    );
+        &mut undo,
+    )?;
     assert!(rt; has(&pieces, [5].as_slice()));
-    apply_combined(&letter, &items, &assigned, &mut pieces);
+    apply_combined(&letter, &items, &assigned, &mut pieces, &mut undo)?;
     assert!(rt; has(&pieces, [9].as_slice()));
+
+    undo.take_back(&mut pieces);
+    assert!(rt; has(&pieces, [5].as_slice()));
     move_laws();
     Ok(())
 }

@@ -1,6 +1,7 @@
 use Rattle.std.proofs.Common.{ap, sym, ◌∙◌}
 use Rattle.bsp_core.specs.Views.{View}
 use Rattle.chaos_entering.specs.State.{NodeState}
+use Rattle.chaos_node.proofs.Scattering.{not_scattering}
 use Rattle.chaos_node.proofs.Working.{ended_right}
 use Rattle.chaos_node.proofs.node.Node.change.Goals as goal
 
@@ -19,10 +20,12 @@ end_inspection-requires-clause-at c = ap (λ (v : View NodeState). v.state.at.ac
 pub end_gather-requires-clause-at : goal.end_gather-requires-clause-at
 end_gather-requires-clause-at c = ap (λ (v : View NodeState). v.state.at.activity) (sym c.self.view_is) ∙ c.in-Gathering.is
 
-pub end_scatter-requires-clause-at : goal.end_scatter-requires-clause-at
-end_scatter-requires-clause-at c = ap (λ (v : View NodeState). v.state.at.activity) (sym c.self.view_is) ∙ c.in-Scattering.is
+pub returns-in-Scattering-clause-right : goal.returns-in-Scattering-clause-right
+returns-in-Scattering-clause-right c =
+    absurd (not_scattering c.args.self.now.state.at.activity _ c.requires.at (ap (λ (v : View NodeState). v.state.at.activity)
+    (sym c.self.view_is) ∙ c.in-Scattering.is))
 
 pub returns-in-Ended-clause-right : goal.returns-in-Ended-clause-right
 returns-in-Ended-clause-right c =
-    ended_right c.args.self.now c.stop.result c.requires (ap (λ (v : View NodeState). v.state.at.activity) (sym c.self.view_is)
+    ended_right c.args.self.now c.stop-in-Ended.result c.requires.work (ap (λ (v : View NodeState). v.state.at.activity) (sym c.self.view_is)
     ∙ c.in-Ended.is)

@@ -1,13 +1,13 @@
-use Rattle.chaos_node.specs.Kept.{shown_node}
-use Rattle.chaos_node.proofs.Making.{kept_same}
-use Rattle.chaos_node.proofs.ScatterEnds.{never_scatters}
+use Rattle.std.proofs.Common.{sym, ◌∙◌}
+use Rattle.std.proofs.lemmas.Result.{IfOk-weaker}
+use Rattle.chaos_node.proofs.Scattering.{executing_is, none_executing}
 use Rattle.chaos_node.proofs.node.Node.end_scatter.Goals as goal
 
-pub applied-requires-clause-kept : goal.applied-requires-clause-kept
-applied-requires-clause-kept c =
-    kept_same (shown_node c.self.inside) c.args.self.now c.as_slice.result.now _ c.self.view_is c.as_slice.ensures c.in-Some.ensures
+pub scattered-requires-clause-at : goal.scattered-requires-clause-at
+scattered-requires-clause-at c = executing_is c.args.self.now.state.at.activity c.in-Some.executing.now (sym c.in-Some.ensures)
+
+pub returns-in-None-clause-made : goal.returns-in-None-clause-made
+returns-in-None-clause-made c = IfOk-weaker c.stopped.result _ _ (λ x made. made c.args.parts.now) c.stopped.ensures
 
 pub returns-in-None-clause-right : goal.returns-in-None-clause-right
-returns-in-None-clause-right c =
-    never_scatters c.args.self.now c.args.executing.now c.stop.result c.requires.at
-    (kept_same (shown_node c.self.inside) c.args.self.now c.as_slice.result.now _ c.self.view_is c.as_slice.ensures c.in-None.ensures)
+returns-in-None-clause-right c = absurd (none_executing c.args.self.now.state.at.activity c.requires.at (sym c.in-None.ensures))
