@@ -7,6 +7,7 @@ pub mod Here
 pub mod Joined
 pub mod Joins
 pub mod Lists
+pub mod Numbering
 pub mod Parts
 pub mod Ranges
 pub mod Reading

@@ -28,7 +28,8 @@ pub fn compute(
     let arrays = facts.arrays.len();
     let body = facts.site.body.as_slice();
     let operators = operators(alloc, seats.as_slice(), arrays, body)?;
-    let mut joining = Joining::new(alloc, arrays)?;
+    let writes = (prepared.iterations.len()).saturating_mul(body.len() as u64);
+    let mut joining = Joining::new(alloc, arrays, pieces, ghosts, writes)?;
     let iterations = Iterations {
         operators: &operators,
         pieces,

@@ -5,9 +5,11 @@
 
 mod applying;
 mod gather;
+mod hashed_rows;
 mod iterate;
 mod joining;
 mod laws;
+mod numbered_rows;
 mod pending;
 mod place;
 mod row_lists;

@@ -1,0 +1,37 @@
+-- Values by place, where a table has the number of each place that has come.
+use Rattle.std.specs.Prelude.{◌≡◌, ◌≤◌, ◌⊎◌, ℕ, nat_lt, ℤ, pos, if◌then◌else◌, List, [], ◌∷◌, length, slice_get, Option, Some, None}
+
+-- places and values side by side
+abbrev pub rows_at : List ℤ → List ℤ → List (ℤ × ℤ)
+rows_at [] values = []
+rows_at (place ∷ places) [] = []
+rows_at (place ∷ places) (value ∷ values) = (place, value) ∷ rows_at places values
+
+-- what the table has where a place has no number
+abbrev pub no_number : ℕ
+no_number = 4294967295
+
+-- a number below a count
+abbrev pub counted : ℕ → Option ℕ → Option ℕ
+counted count None = None
+counted count (Some number) = if nat_lt number count then Some number else None
+
+-- the table has the number of each of these places, and no other number
+pub record IsTable (table : List ℕ) (places : List ℤ) : Type 0 where
+  pub found : (number place : ℕ) → slice_get places number ≡ Some (pos place) → slice_get table place ≡ Some number
+  pub has : (place number : ℕ) → slice_get table place ≡ Some number → (number ≡ no_number) ⊎ (slice_get places number ≡ Some (pos place))
+
+-- and each place has a value
+pub record IsNumbered (table : List ℕ) (places values : List ℤ) : Type 0 where
+  pub known : IsTable table places
+  pub paired : length places ≤ length values
+  pub few : length places ≤ no_number
+
+-- a table with places behind it that have no number
+pub record IsGrown (table grown : List ℕ) : Type 0 where
+  pub keeps : (place number : ℕ) → slice_get table place ≡ Some number → slice_get grown place ≡ Some number
+  pub adds_none : (place number : ℕ) → slice_get grown place ≡ Some number → (number ≡ no_number) ⊎ (slice_get table place ≡ Some number)
+
+-- the place is none of these
+abbrev pub IsNewIn : List ℤ → ℕ → Type 0
+IsNewIn places place = (number : ℕ) → slice_get places number ≡ Some (pos place) → ⊥
