@@ -1,10 +1,12 @@
 pub mod Applied
+pub mod Blocks
 pub mod Booleans
 pub mod Executing
 pub mod Gathered
 pub mod Given
 pub mod Here
 pub mod Joined
+pub mod Joinings
 pub mod Joins
 pub mod Lists
 pub mod Numbering

@@ -4,6 +4,7 @@
 #![tactic(auto)]
 
 mod applying;
+mod columns;
 mod gather;
 mod hashed_rows;
 mod iterate;
@@ -12,12 +13,12 @@ mod laws;
 mod numbered_rows;
 mod pending;
 mod place;
+mod pool;
 mod row_lists;
 mod rows;
 mod scatter;
 mod seat;
 mod statements;
-mod values;
 
 pub use applying::apply;
 pub use gather::{gather_in, gather_out};
