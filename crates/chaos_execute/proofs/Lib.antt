@@ -1,4 +1,5 @@
 pub mod Applied
+pub mod Arrays
 pub mod Blocks
 pub mod Booleans
 pub mod Executing

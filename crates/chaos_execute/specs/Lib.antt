@@ -2,6 +2,7 @@ pub mod Seats
 pub mod Pending
 pub mod Columns
 pub mod Blocks
+pub mod ByArray
 pub mod Numbered
 pub mod RowKinds
 pub mod Letters

@@ -1,14 +1,19 @@
 ghost use Rattle.std.specs.Prelude.{◌≡◌, ◌*◌, drop, length, IfOk, OnOk};
-ghost use Rattle.chaos_execute.specs.Blocks.{columns_of, joined_block, joined_values};
+ghost use Rattle.chaos_execute.specs.Blocks.{columns_of, joined_block};
+ghost use Rattle.chaos_execute.specs.ByArray.{HasArrays};
 ghost use Rattle.chaos_execute.specs.Pending.{after_iterations, pending_of};
 
 use crate::PendingValues;
+use crate::by_array::Joined;
 use crate::columns::column;
 use crate::joining::Joining;
+use crate::place::count;
 use crate::pool::Pool;
-use crate::seat::{Seat, locate, seats, width};
-use crate::statements::{expression, operators, target};
-use chaos_move::Operators;
+use crate::row_lists::join_array_of;
+use crate::seat::{Seat, seats, width};
+use crate::statements::{expression, operators};
+use crate::targets::targets;
+use chaos_move::{Operators, operator_of};
 use chaos_sched::{LocalRef, Prepared};
 use fd_program::{CheckedBody, LoopFacts};
 use fd_words::{Memory, NumberLists, Numbers};
@@ -39,6 +44,7 @@ pub fn compute(
         terms: &facts.turn.terms,
         seats: seats.as_slice(),
         width: width(facts.site.references.as_slice()),
+        arrays,
         body,
     };
     iterations.run(alloc, prepared, &mut joining)?;
@@ -60,11 +66,13 @@ struct Iterations<'a> {
     terms: &'a Numbers,
     seats: &'a [Seat],
     width: u64,
+    arrays: usize,
     body: &'a [CheckedBody],
 }
 
 impl Iterations<'_> {
     fn run(&self, alloc: Global, prepared: &Prepared, joining: &mut Joining) -> Result<(), Memory>
+        requires { HasArrays self.now.arrays joining.old }
         ensures { OnOk result (joining.new ≡ after_iterations self.now.operators.now self.now.pieces.now self.now.ghosts.now self.now.terms.now self.now.seats.now self.now.width self.now.body.now prepared.now.iterations prepared.now.references joining.old) }
     {
         let mut pool = Pool::new(alloc);
@@ -93,10 +101,12 @@ impl Iterations<'_> {
         pool: &mut Pool,
         joining: &mut Joining,
     ) -> Result<(), Memory>
-        ensures { OnOk result (joining.new ≡ after_iterations self.now.operators.now self.now.pieces.now self.now.ghosts.now self.now.terms.now self.now.seats.now self.now.width self.now.body.now iterations.now row.now joining.old) }
+        requires { HasArrays self.now.arrays joining.old }
+        ensures joined { OnOk result (joining.new ≡ after_iterations self.now.operators.now self.now.pieces.now self.now.ghosts.now self.now.terms.now self.now.seats.now self.now.width self.now.body.now iterations.now row.now joining.old) }
+        ensures arrays { OnOk result (HasArrays self.now.arrays joining.new) }
     {
         let columns = self.columns(alloc, iterations, row, pool)?;
-        self.join_block(&columns, iterations, row, joining)?;
+        self.join_block(alloc, &columns, iterations, row, joining)?;
         give_back(columns, pool)?;
         Ok(())
     }
@@ -129,39 +139,39 @@ impl Iterations<'_> {
         Ok(columns)
     }
 
+    /// Joins the values of a block array by array: those of an array in the order of iterations and
+    /// statements.
     fn join_block(
         &self,
+        alloc: Global,
         columns: &NumberLists,
         iterations: &[i64],
         row: &[LocalRef],
         joining: &mut Joining,
     ) -> Result<(), Memory>
-        ensures { OnOk result (joining.new ≡ joined_block self.now.operators.now self.now.pieces.now self.now.ghosts.now self.now.seats.now self.now.width self.now.body.now columns.now 0 iterations.now row.now joining.old) }
+        requires { HasArrays self.now.arrays joining.old }
+        ensures joined { OnOk result (joining.new ≡ joined_block self.now.operators.now self.now.pieces.now self.now.ghosts.now self.now.seats.now self.now.width self.now.body.now columns.now 0 iterations.now row.now joining.old) }
+        ensures arrays { OnOk result (HasArrays self.now.arrays joining.new) }
     {
-        let mut left = row;
-        for at in 0..iterations.len() {
-            self.join_row(columns, at as u64, left, joining)?;
-            left = behind(left, self.width);
-        }
-        Ok(())
-    }
-
-    /// Joins the values at a place of the columns, statement by statement.
-    fn join_row(
-        &self,
-        columns: &NumberLists,
-        at: u64,
-        row: &[LocalRef],
-        joining: &mut Joining,
-    ) -> Result<(), Memory>
-        ensures { OnOk result (joining.new ≡ joined_values self.now.operators.now self.now.pieces.now self.now.ghosts.now self.now.seats.now columns.now at row.now 0 joining.old self.now.body.now) }
-    {
-        let mut place = 0u64;
-        for statement in self.body {
-            let to = locate(self.seats, row, target(statement));
-            let value = columns.value_at(place, at);
-            joining.join(self.operators, self.pieces, self.ghosts, to, value)?;
-            place += 1;
+        for number in 0..self.arrays {
+            let array = number as u64;
+            let targets = targets(alloc, self.seats, array, self.body)?;
+            let joined = Joined {
+                operator: operator_of(self.operators, array),
+                own: count(self.pieces, array),
+                slots: count(self.ghosts, array),
+            };
+            join_array_of(
+                &mut joining.here,
+                &mut joining.ghosts,
+                number,
+                joined,
+                columns,
+                self.width,
+                targets.as_slice(),
+                iterations,
+                row,
+            )?;
         }
         Ok(())
     }

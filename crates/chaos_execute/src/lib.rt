@@ -4,6 +4,7 @@
 #![tactic(auto)]
 
 mod applying;
+mod by_array;
 mod columns;
 mod gather;
 mod hashed_rows;
@@ -19,6 +20,7 @@ mod rows;
 mod scatter;
 mod seat;
 mod statements;
+mod targets;
 
 pub use applying::apply;
 pub use gather::{gather_in, gather_out};
