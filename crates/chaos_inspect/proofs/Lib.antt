@@ -1,3 +1,4 @@
+pub mod Blocks
 pub mod Deals
 pub mod Walks
 pub mod IndexLaws
