@@ -20,7 +20,7 @@ impl Arith {
         if minus { Arith::Minus } else { Arith::Plus }
     }
 
-    /// The exact_sum, difference or product, exactly.
+    /// The sum, difference or product, exactly.
     pub fn exact(self, a: i64, b: i64) -> i128
         ensures { result ≡ exactly self a b }
     {
@@ -31,7 +31,7 @@ impl Arith {
         }
     }
 
-    /// The exact_sum, difference or product, modulo 2^64.
+    /// The sum, difference or product, modulo 2^64.
     pub fn apply(self, a: i64, b: i64) -> i64
         ensures { result ≡ wrapped (exactly self a b) }
     {
@@ -43,7 +43,7 @@ impl Arith {
     }
 }
 
-/// Their exact_sum, exactly.
+/// Their sum, exactly.
 pub fn exact_sum(a: i64, b: i64) -> i128
     ensures { result ≡ a +ℤ b }
 {
