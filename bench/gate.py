@@ -6,16 +6,19 @@
   bench/gate.py --table FILE     prints the table of a run that wrote FILE (each run writes gate.tsv in the folder of temporary files)
 
 Minutes are of processor time (user and system) of all processes below the run, looked up four times a second and
-summed; what no look saw is told as the rest. The run's own output goes to standard error.
+summed; what no look saw is told as the rest. The run's own output goes to standard error. Machines differ by twice and more, and one
+differs from hour to hour: so the last line tells what a loop of two million additions took before the run, and beside it, by median.
 """
 import os
 import re
+import statistics
 import subprocess
 import sys
 import tempfile
 import time
 
 EACH = 0.25
+LOOKS = 240
 TICKS = os.sysconf("SC_CLK_TCK")
 KINDS = ["proof", "edits", "tests", "runs"]
 
@@ -68,10 +71,22 @@ def kind_of(words, place):
     return name, "runs"
 
 
-def watch(run):
-    """The ticks of each process directly below the run, by crate and kind."""
-    seen = {}
+def additions():
+    """Processor seconds of two million additions: how fast the machine is just now."""
+    began = time.process_time()
+    total = 0
+    for number in range(2_000_000):
+        total += number
+    return time.process_time() - began
+
+
+def watch(run, speeds):
+    """The ticks of each process directly below the run, by crate and kind; a minute apart how fast the machine is."""
+    seen, looks = {}, 0
     while run.poll() is None:
+        looks += 1
+        if looks % LOOKS == 0:
+            speeds.append(additions())
         for number, (parent, began, ticks) in processes().items():
             if parent == run.pid:
                 key = (number, began)
@@ -129,9 +144,10 @@ def main():
             rows = [line.rstrip("\n").split("\t") for line in told]
         sums = {(name, kind): float(it) for name, kind, it in rows}
         return table(sums, sums.pop(("", "whole")))
+    quiet, speeds = additions(), []
     began = os.times()
     run = subprocess.Popen(["rt", "ci", *(words or ["--anew"])], stdout=sys.stderr)
-    sums = watch(run)
+    sums = watch(run, speeds)
     ended = os.times()
     whole = ended.children_user + ended.children_system - began.children_user - began.children_system
     kept = os.path.join(tempfile.gettempdir(), "gate.tsv")
@@ -139,6 +155,7 @@ def main():
         for (name, kind), seconds in sorted([*sums.items(), (("", "whole"), whole)]):
             out.write(f"{name}\t{kind}\t{seconds:.1f}\n")
     table(sums, whole)
+    print(f"Two million additions: {quiet:.2f} s before the run, {statistics.median(speeds or [quiet]):.2f} s beside it.")
     print(f"What the run took is kept in {kept}.", file=sys.stderr)
     return run.returncode
 

@@ -54,6 +54,23 @@ for points in (1_000, 25_000, 50_000, 100_000):
     "PROGRAM SMALL\nINTEGER*8 X(1000000), Y(1)\nOUTPUT Y\nDO K = 1, 5000\nFORALL I = 1, 1\nX(I) = K\nEND FORALL\nEND DO\nEND\n"
 )
 
+# executions of a loop over one element in a program of as many large arrays as it may have
+arrays = "".join(f"INTEGER*8 A{k}({count})\n" for k in range(1, 65))
+write("many.fd", f"PROGRAM MANY\n{arrays}DO K = 1, 50\nFORALL I = 1, 1\nA1(I) = A1(I) + K\nEND FORALL\nEND DO\nEND\n")
+
+# 100 inspections of a loop of ten elements, beside a loop that is kept, whose ghosts are half a million on 2 nodes; with arrays of their
+# own, and with those of the kept loop
+half = 500_000
+for name, small, extent in ("beside", "Z", 10), ("among", "X", 2 * half):
+    declared = f", Z({extent})" if small == "Z" else ""
+    write(f"{name}.fd", f"PROGRAM KEPT\nDECOMPOSITION D({2 * half})\nINTEGER*8 X({2 * half}), Y({2 * half}), JA(10), S(10){declared}\n"
+          "ALIGN X(I), Y(I) WITH D(I)\nOUTPUT S\n"
+          f"FORALL I = 1, {half}\nY(I) = X(I+{half})\nEND FORALL\n"
+          "FORALL I = 1, 10\nJA(I) = I\nEND FORALL\n"
+          f"DO K = 1, 100\nFORALL I = 1, 10\nREDUCE(ADD, S(I), {small}(JA(I)) + K)\nEND FORALL\n"
+          "FORALL I = 1, 10\nJA(I) = 11 - JA(I)\nEND FORALL\nEND DO\n"
+          f"FORALL I = 1, {half}\nY(I) = X(I+{half})\nEND FORALL\nEND\n")
+
 # elements in space
 for name, factor in ("across", 2654435761), ("down", 40503), ("deep", 97):
     write(f"{name}.csv", "".join(f"{i * factor % 1000003 * (i % 7 + 1)}\n" for i in range(count)))

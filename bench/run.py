@@ -93,6 +93,17 @@ class Bench:
                 self.one(f"{name}, {nodes} nodes in turns", [PLAY, *words, "--nodes", nodes], ".", plain)
                 self.one(f"{name}, {nodes} nodes by threads", [RUN, *words, "--nodes", nodes], ".", plain)
 
+    def besides(self):
+        """Steps that name little, beside much that they don't name."""
+        for name, source in (
+            ("50 steps of one element beside 64 arrays", "many.fd"),
+            ("100 inspections beside a kept loop", "beside.fd"),
+            ("100 inspections in a kept loop's array", "among.fd"),
+        ):
+            plain = self.one(f"{name}, --plain", [PLAY, source, "--plain"], ".")
+            for nodes in "2", "4":
+                self.one(f"{name}, {nodes} nodes in turns", [PLAY, source, "--nodes", nodes], ".", plain)
+
     def bisections(self):
         """A million elements along three axes into 64 parts."""
         words = ["64", "1048576"]
@@ -128,6 +139,7 @@ def main(words):
         if not words:
             print()
             bench.others()
+            bench.besides()
             bench.bisections()
             bench.particles()
     os.makedirs(f"{HERE}/out", exist_ok=True)
