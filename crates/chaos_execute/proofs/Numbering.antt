@@ -1,16 +1,17 @@
 -- Values joined by the numbers of their places.
-use Rattle.std.proofs.Common.{◌≡◌, ◌≢◌, ℕ, zero, suc, ◌<◌, ◌≤◌, ◌⊎◌, ℤ, pos, Bool, true, false, cond, List, [], ◌∷◌, ◌++◌, length, take, drop, get_or, set, append_assoc, ◌+◌}
+use Rattle.std.proofs.Common.{◌≡◌, ◌≢◌, ℕ, zero, suc, ◌<◌, ◌≤◌, ◌⊎◌, ℤ, pos, Bool, true, false, cond, List, [], ◌∷◌, ◌++◌, length, length-drop, take, drop, get_or, set, ◌+◌, ◌*◌, ◌/◌}
 use Rattle.std.proofs.Common.{Option, Some, None, refl, ap, sym, subst, ◌∙◌, arith, inl, inr}
 use Rattle.std.specs.Prelude.{nat_lt, slice_get, fold}
-use Rattle.std.proofs.lemmas.List.{drop_more, get_or_default, length_push}
+use Rattle.std.proofs.lemmas.List.{get_or_default, length_push}
 use Rattle.std.proofs.lemmas.Option.{unwrap_or-slice_get}
 use Rattle.std.specs.Ordering.{int_eq}
 use Rattle.std.proofs.lemmas.Bool.Decides.{eqb_tells, Decides-ltb}
 use Rattle.fd_words.specs.declared.combine.Combine.{Combine}
 use Rattle.chaos_move.specs.Moves.{changed, number_at}
-use Rattle.chaos_execute.specs.Numbered.{rows_at, no_number, counted, IsTable, IsNumbered, IsGrown, IsNewIn}
-use Rattle.chaos_execute.specs.Pending.{joined_at, put_slot, row_numbers, rows_of}
+use Rattle.chaos_execute.specs.Numbered.{places_at, rows_at, no_number, counted, IsTable, IsNumbered, IsGrown, IsNewIn}
+use Rattle.chaos_execute.specs.Pending.{joined_at, put_slot, rows_of}
 use Rattle.chaos_execute.proofs.Booleans.{int_true, int_false, less_true, pos_same}
+use Rattle.chaos_execute.proofs.Here.{two_left}
 
 -- ---- a number below a count
 
@@ -114,65 +115,123 @@ table_added table places place t long new = record {
 
 -- ---- rows
 
+-- either each place has a value, or the last has none
+places_are : (rows : List ℤ) → (length rows ≡ 2 * length (places_at rows)) ⊎ (length rows ≡ 2 * length (places_at rows) + 1)
+places_are [] = inl refl
+places_are (p ∷ []) = inr refl
+places_are (p ∷ v ∷ rows) = elim (places_are rows) [ inl even ↦ inl (omega (arith, even)) | inr odd ↦ inr (omega (arith, odd)) ]
+
+pub places_half : (rows : List ℤ) (half : ℕ) → half ≡ length rows / 2 → half ≡ length (places_at rows)
+places_half rows half h = elim (places_are rows) [ inl even ↦ omega (arith, even, h) | inr odd ↦ omega (arith, odd, h) ]
+
+pub place_within : (rows : List ℤ) (number : ℕ) → number < length (places_at rows) → 2 * number + 1 < length rows
+place_within rows number h = elim (places_are rows) [ inl even ↦ omega (arith, even, h) | inr odd ↦ omega (arith, odd, h) ]
+
 -- another value for the one place with this number
-changed_one : (operator : Option Combine) (places values : List ℤ) (number : ℕ) (place value : ℤ) → length places ≤ length values
-    → slice_get places number ≡ Some place → ((other : ℕ) → slice_get places other ≡ Some place → other ≡ number)
-    → rows_at places (set values number (changed operator (number_at values number) value))
-    ≡ joined_at operator (rows_at places values) place value
-changed_one operator [] values number place value paired is only = cc
-changed_one operator (p ∷ places) [] number place value paired is only = absurd (omega arith)
-changed_one operator (p ∷ places) (v ∷ values) zero place value paired is only =
+changed_one : (operator : Option Combine) (rows : List ℤ) (number at : ℕ) (place value : ℤ) → at ≡ 2 * number + 1
+    → slice_get (places_at rows) number ≡ Some place → ((other : ℕ) → slice_get (places_at rows) other ≡ Some place → other ≡ number)
+    → rows_at (set rows at (changed operator (number_at rows at) value)) ≡ joined_at operator (rows_at rows) place value
+changed_one operator [] number at place value e is only = cc
+changed_one operator (p ∷ []) number at place value e is only = cc
+changed_one operator (p ∷ v ∷ rows) zero zero place value e is only = absurd (omega arith)
+changed_one operator (p ∷ v ∷ rows) zero (suc zero) place value e is only =
     let same : p ≡ place = cc in
-    sym (ap (λ b. cond b ((p, changed operator v value) ∷ rows_at places values) ((p, v) ∷ joined_at operator (rows_at places values) place
-    value)) (int_true place p (sym same)))
-changed_one operator (p ∷ places) (v ∷ values) (suc number) place value paired is only =
-    let rest = changed_one operator places values number place value (omega arith) is
-    (λ other e. let s : suc other ≡ suc number = only (suc other) e in omega arith) in
+    sym (ap (λ b. cond b ((p, changed operator v value) ∷ rows_at rows) ((p, v) ∷ joined_at operator (rows_at rows) place value))
+    (int_true place p (sym same)))
+changed_one operator (p ∷ v ∷ rows) zero (suc (suc at)) place value e is only = absurd (omega arith)
+changed_one operator (p ∷ v ∷ rows) (suc number) zero place value e is only = absurd (omega arith)
+changed_one operator (p ∷ v ∷ rows) (suc number) (suc zero) place value e is only = absurd (omega arith)
+changed_one operator (p ∷ v ∷ rows) (suc number) (suc (suc at)) place value e is only =
+    let rest = changed_one operator rows number at place value (omega arith) is
+    (λ other f. let s : suc other ≡ suc number = only (suc other) f in omega arith) in
     let differs : int_eq place p ≡ false =
     int_false place p (λ same. let no : 0 ≡ suc number = only 0 (ap Some (sym same)) in absurd (omega arith)) in
     ap (λ more. (p, v) ∷ more) rest
-    ∙ sym (ap (λ b. cond b ((p, changed operator v value) ∷ rows_at places values) ((p, v) ∷ joined_at operator (rows_at places values)
-    place value)) differs)
+    ∙ sym (ap (λ b. cond b ((p, changed operator v value) ∷ rows_at rows) ((p, v) ∷ joined_at operator (rows_at rows) place value)) differs)
+
+-- another value leaves the places as they are
+places_kept : (rows : List ℤ) (number at : ℕ) (value : ℤ) → at ≡ 2 * number + 1 → places_at (set rows at value) ≡ places_at rows
+places_kept [] number at value e = refl
+places_kept (p ∷ []) number zero value e = absurd (omega arith)
+places_kept (p ∷ []) number (suc at) value e = refl
+places_kept (p ∷ v ∷ rows) number zero value e = absurd (omega arith)
+places_kept (p ∷ v ∷ rows) number (suc zero) value e = refl
+places_kept (p ∷ v ∷ rows) zero (suc (suc at)) value e = absurd (omega arith)
+places_kept (p ∷ v ∷ rows) (suc number) (suc (suc at)) value e = ap (λ more. p ∷ more) (places_kept rows number at value (omega arith))
 
 -- the first value of a place
-added_one : (operator : Option Combine) (places values : List ℤ) (place value : ℤ) → length values ≡ length places
-    → ((number : ℕ) → slice_get places number ≡ Some place → ⊥)
-    → rows_at (places ++ place ∷ []) (values ++ value ∷ []) ≡ joined_at operator (rows_at places values) place value
-added_one operator [] [] place value e new = refl
-added_one operator [] (v ∷ values) place value e new = absurd (omega arith)
-added_one operator (p ∷ places) [] place value e new = absurd (omega arith)
-added_one operator (p ∷ places) (v ∷ values) place value e new =
-    let rest = added_one operator places values place value (omega arith) (λ number. new (suc number)) in
+added_one : (operator : Option Combine) (rows : List ℤ) (place value : ℤ) → length rows ≡ 2 * length (places_at rows)
+    → ((number : ℕ) → slice_get (places_at rows) number ≡ Some place → ⊥)
+    → rows_at (rows ++ place ∷ value ∷ []) ≡ joined_at operator (rows_at rows) place value
+added_one operator [] place value even new = refl
+added_one operator (p ∷ []) place value even new = absurd (omega (arith, even))
+added_one operator (p ∷ v ∷ rows) place value even new =
+    let rest = added_one operator rows place value (omega (arith, even)) (λ number. new (suc number)) in
     let differs : int_eq place p ≡ false = int_false place p (λ same. new 0 (ap Some (sym same))) in
     ap (λ more. (p, v) ∷ more) rest
-    ∙ sym (ap (λ b. cond b ((p, changed operator v value) ∷ rows_at places values) ((p, v) ∷ joined_at operator (rows_at places values)
-    place value)) differs)
+    ∙ sym (ap (λ b. cond b ((p, changed operator v value) ∷ rows_at rows) ((p, v) ∷ joined_at operator (rows_at rows) place value)) differs)
 
-rows_taken : (places values : List ℤ) → rows_at places (take (length places) values) ≡ rows_at places values
-rows_taken [] values = refl
-rows_taken (p ∷ places) [] = refl
-rows_taken (p ∷ places) (v ∷ values) = ap (λ more. (p, v) ∷ more) (rows_taken places values)
+places_more : (rows : List ℤ) (place value : ℤ) → length rows ≡ 2 * length (places_at rows)
+    → places_at (rows ++ place ∷ value ∷ []) ≡ places_at rows ++ place ∷ []
+places_more [] place value even = refl
+places_more (p ∷ []) place value even = absurd (omega (arith, even))
+places_more (p ∷ v ∷ rows) place value even = ap (λ more. p ∷ more) (places_more rows place value (omega (arith, even)))
 
-length_taken : (n : ℕ) (values : List ℤ) → n ≤ length values → length (take n values) ≡ n
-length_taken zero values h = refl
-length_taken (suc n) [] h = absurd (omega arith)
-length_taken (suc n) (v ∷ values) h = ap suc (length_taken n values (omega arith))
+-- a place without a value is no row
+places_odd : (rows : List ℤ) (place : ℤ) → length rows ≡ 2 * length (places_at rows) → places_at (rows ++ place ∷ []) ≡ places_at rows
+places_odd [] place even = refl
+places_odd (p ∷ []) place even = absurd (omega (arith, even))
+places_odd (p ∷ v ∷ rows) place even = ap (λ more. p ∷ more) (places_odd rows place (omega (arith, even)))
+
+-- ---- whole rows
+
+record IsWholeOf (rows whole : List ℤ) : Type 0 where
+  rows_are : rows_at whole ≡ rows_at rows
+  places_are_those : places_at whole ≡ places_at rows
+  even : length whole ≡ 2 * length (places_at whole)
+
+whole_by : (rows : List ℤ) (count : ℕ) → count ≡ 2 * length (places_at rows) → IsWholeOf rows (take count rows)
+whole_by [] zero e = record { rows_are = refl; places_are_those = refl; even = refl }
+whole_by [] (suc count) e = record { rows_are = refl; places_are_those = refl; even = refl }
+whole_by (p ∷ []) zero e = record { rows_are = refl; places_are_those = refl; even = refl }
+whole_by (p ∷ []) (suc count) e = absurd (omega (arith, e))
+whole_by (p ∷ v ∷ rows) zero e = absurd (omega (arith, e))
+whole_by (p ∷ v ∷ rows) (suc zero) e = absurd (omega (arith, e))
+whole_by (p ∷ v ∷ rows) (suc (suc count)) e =
+    let rest = whole_by rows count (omega (arith, e)) in
+    let even : length (take count rows) ≡ 2 * length (places_at (take count rows)) = rest.even in
+    record {
+      rows_are = ap (λ more. (p, v) ∷ more) rest.rows_are;
+      places_are_those = ap (λ more. p ∷ more) rest.places_are_those;
+      even = omega (arith, even);
+    }
+
+numbers_even : (rows : List ℤ) → length rows ≡ 2 * length (places_at rows) → rows_of (rows_at rows) ≡ rows
+numbers_even [] even = refl
+numbers_even (p ∷ []) even = absurd (omega (arith, even))
+numbers_even (p ∷ v ∷ rows) even = ap (λ more. p ∷ v ∷ more) (numbers_even rows (omega (arith, even)))
+
+pub numbers_whole : (rows after : List ℤ) (half : ℕ) → half ≡ length rows / 2 → after ≡ take (2 * half) rows → after ≡ rows_of (rows_at rows)
+numbers_whole rows after half h e =
+    let count : half ≡ length (places_at rows) = places_half rows half h in
+    let whole = whole_by rows (2 * half) (omega (arith, count)) in
+    e ∙ sym (numbers_even (take (2 * half) rows) whole.even) ∙ ap rows_of whole.rows_are
 
 -- ---- what the table finds
 
-pub row_changed : (operator : Option Combine) (table : List ℕ) (places values : List ℤ) (place number : ℕ) (value : ℤ)
-    → IsNumbered table places values → counted (length places) (slice_get table place) ≡ Some number
-    → rows_at places (set values number (changed operator (number_at values number) value))
-    ≡ joined_at operator (rows_at places values) (pos place) value
-row_changed operator table places values place number value n e =
-    let is = counted_some (length places) number (slice_get table place) e in
-    let few : length places ≤ no_number = n.few in
-    let below : number < length places = is.1 in
-    let at : slice_get places number ≡ Some (pos place) = elim (n.known.has place number is.0) [
+pub row_changed : (operator : Option Combine) (table : List ℕ) (rows : List ℤ) (place number : ℕ) (value : ℤ)
+    → IsNumbered table rows → counted (length (places_at rows)) (slice_get table place) ≡ Some number
+    → rows_at (set rows (2 * number + 1) (changed operator (number_at rows (2 * number + 1)) value))
+    ≡ joined_at operator (rows_at rows) (pos place) value
+row_changed operator table rows place number value n e =
+    let is = counted_some (length (places_at rows)) number (slice_get table place) e in
+    let few : length (places_at rows) ≤ no_number = n.few in
+    let below : number < length (places_at rows) = is.1 in
+    let at : slice_get (places_at rows) number ≡ Some (pos place) = elim (n.known.has place number is.0) [
       | inl none ↦ absurd (omega arith)
       | inr found ↦ found
     ] in
-    changed_one operator places values number (pos place) value n.paired at
+    changed_one operator rows number (2 * number + 1) (pos place) value refl at
     (λ other f. let same : Some other ≡ Some number = sym (n.known.found other place f) ∙ is.0 in cc)
 
 within : {A : Type 0} (xs : List A) (i : ℕ) (x : A) → slice_get xs i ≡ Some x → i < length xs
@@ -180,47 +239,15 @@ within [] i x e = cc
 within (y ∷ xs) zero x e = omega arith
 within (y ∷ xs) (suc i) x e = let rest : i < length xs = within xs i x e in omega arith
 
-pub is_new : (table : List ℕ) (places values : List ℤ) (place : ℕ) → IsNumbered table places values
-    → counted (length places) (slice_get table place) ≡ None → IsNewIn places place
-is_new table places values place n e number f =
-    counted_none (length places) (slice_get table place) number e (n.known.found number place f) (within places number (pos place) f)
+pub is_new : (table : List ℕ) (rows : List ℤ) (place : ℕ) → IsNumbered table rows
+    → counted (length (places_at rows)) (slice_get table place) ≡ None → IsNewIn (places_at rows) place
+is_new table rows place n e number f =
+    counted_none (length (places_at rows)) (slice_get table place) number e (n.known.found number place f)
+    (within (places_at rows) number (pos place) f)
 
-pub row_added : (operator : Option Combine) (places values : List ℤ) (place : ℕ) (value : ℤ) → length places ≤ length values
-    → IsNewIn places place
-    → rows_at (places ++ pos place ∷ []) (take (length places) values ++ value ∷ [])
-    ≡ joined_at operator (rows_at places values) (pos place) value
-row_added operator places values place value paired new =
-    added_one operator places (take (length places) values) (pos place) value (length_taken (length places) values paired) new
-    ∙ ap (λ rows. joined_at operator rows (pos place) value) (rows_taken places values)
-
--- ---- one row after another
-
-rows_more : (places values : List ℤ) (at : ℕ) → at < length places → at < length values
-    → rows_at (drop at places) (drop at values)
-    ≡ (get_or places at (pos 0), get_or values at (pos 0)) ∷ rows_at (drop (at + 1) places) (drop (at + 1) values)
-rows_more places values at h k =
-    ap (λ ps. rows_at ps (drop at values)) (drop_more places at (pos 0) h)
-    ∙ ap (rows_at (get_or places at (pos 0) ∷ drop (at + 1) places)) (drop_more values at (pos 0) k)
-
-pub numbers_more : (places values : List ℤ) (at : ℕ) (front further all : List ℤ) → at < length places → length places ≤ length values
-    → further ≡ front ++ row_numbers (get_or places at (pos 0), get_or values at (pos 0))
-    → front ++ rows_of (rows_at (drop at places) (drop at values)) ≡ all
-    → further ++ rows_of (rows_at (drop (at + 1) places) (drop (at + 1) values)) ≡ all
-numbers_more places values at front further all h paired noted before =
-    let row = row_numbers (get_or places at (pos 0), get_or values at (pos 0)) in
-    let rest = rows_at (drop (at + 1) places) (drop (at + 1) values) in
-    ap (λ f. f ++ rows_of rest) noted ∙ append_assoc front row (rows_of rest)
-    ∙ ap (λ rows. front ++ rows_of rows) (sym (rows_more places values at h (omega arith)))
-    ∙ before
-
-pub slots_more : (places values : List ℤ) (at : ℕ) (before after start : List ℤ) → at < length places → length places ≤ length values
-    → after ≡ put_slot before (get_or places at (pos 0), get_or values at (pos 0))
-    → fold put_slot before (rows_at (drop at places) (drop at values)) ≡ start
-    → fold put_slot after (rows_at (drop (at + 1) places) (drop (at + 1) values)) ≡ start
-slots_more places values at before after start h paired put invariant =
-    ap (λ n. fold put_slot n (rows_at (drop (at + 1) places) (drop (at + 1) values))) put
-    ∙ ap (fold put_slot before) (sym (rows_more places values at h (omega arith)))
-    ∙ invariant
+pub number_below : (rows : List ℤ) (table : List ℕ) (place number : ℕ) → counted (length (places_at rows)) (slice_get table place) ≡ Some number
+    → number < length (places_at rows)
+number_below rows table place number e = (counted_some (length (places_at rows)) number (slice_get table place) e).1
 
 -- the number at a place that a list has
 pub number_there : (xs : List ℤ) (i : ℕ) (x : ℤ) → i < length xs → x ≡ get_or xs i x → x ≡ number_at xs i
@@ -228,39 +255,76 @@ number_there xs i x h e = e ∙ get_or_default xs i x (pos 0) h ∙ sym (unwrap_
 
 -- ---- a place more, step by step
 
--- behind a table that has grown, with as many values at least
-pub grown_numbered : (table grown : List ℕ) (places values now after : List ℤ) → IsNumbered table places values → IsGrown table grown
-    → now ≡ places → length places ≤ length after → IsNumbered grown now after
-grown_numbered table grown places values now after n g same paired = subst (λ ps. IsNumbered grown ps after) (sym same) record {
-  known = grown_table table grown places n.known g;
-  paired = paired;
-  few = n.few;
+-- other values, or none behind the last place
+same_places : (table : List ℕ) (rows after : List ℤ) → IsNumbered table rows → places_at after ≡ places_at rows → IsNumbered table after
+same_places table rows after n same = record {
+  known = subst (IsTable table) (sym same) n.known;
+  few = subst (λ (places : List ℤ). length places ≤ no_number) (sym same) n.few;
 }
 
-pub taken_paired : (n : ℕ) (values after : List ℤ) → n ≤ length values → after ≡ take n values → n ≤ length after
-taken_paired n values after h e =
-    let one : length after ≡ length (take n values) = ap length e in
-    let two : length (take n values) ≡ n = length_taken n values h in
-    omega arith
+pub changed_numbered : (table : List ℕ) (rows after : List ℤ) (number : ℕ) (value : ℤ) → IsNumbered table rows
+    → after ≡ set rows (2 * number + 1) value → IsNumbered table after
+changed_numbered table rows after number value n e =
+    same_places table rows after n (ap places_at e ∙ places_kept rows number (2 * number + 1) value refl)
 
-pub pushed_paired : (n : ℕ) (value : ℤ) (values after : List ℤ) → n ≤ length values → after ≡ take n values ++ value ∷ []
-    → length after ≡ n + 1
-pushed_paired n value values after h e =
-    let one : length after ≡ length (take n values ++ value ∷ []) = ap length e in
-    let two : length (take n values ++ value ∷ []) ≡ length (take n values) + 1 = length_push (take n values) value in
-    let three : length (take n values) ≡ n = length_taken n values h in
-    omega arith
+pub grown_numbered : (table grown : List ℕ) (rows : List ℤ) → IsNumbered table rows → IsGrown table grown → IsNumbered grown rows
+grown_numbered table grown rows n g = record { known = grown_table table grown (places_at rows) n.known g; few = n.few }
 
-pub added_numbered : (table grown : List ℕ) (places values now after : List ℤ) (place : ℕ) (value : ℤ) → IsNumbered table places values
-    → IsGrown table grown → IsNewIn places place → place < length grown → length places < no_number → now ≡ places ++ pos place ∷ []
-    → after ≡ take (length places) values ++ value ∷ [] → IsNumbered (set grown place (length places)) now after
-added_numbered table grown places values now after place value n g new long few same e =
-    let one : length now ≡ length (places ++ pos place ∷ []) = ap length same in
-    let two : length (places ++ pos place ∷ []) ≡ length places + 1 = length_push places (pos place) in
-    let three : length after ≡ length places + 1 = pushed_paired (length places) value values after n.paired e in
-    record {
-      known = subst (λ ps. IsTable (set grown place (length places)) ps) (sym same)
-          (table_added grown places place (grown_table table grown places n.known g) long new);
-      paired = omega arith;
-      few = omega arith;
-    }
+module _ (rows : List ℤ) (half : ℕ) (h : half ≡ length rows / 2) where
+  whole_rows : IsWholeOf rows (take (2 * half) rows)
+  whole_rows = let count : half ≡ length (places_at rows) = places_half rows half h in whole_by rows (2 * half) (omega (arith, count))
+
+  pub taken_numbered : (table : List ℕ) (after : List ℤ) → IsNumbered table rows → after ≡ take (2 * half) rows → IsNumbered table after
+  taken_numbered table after n e = same_places table rows after n (ap places_at e ∙ whole_rows.places_are_those)
+
+  -- the place stands and its value found no room
+  pub odd_numbered : (table : List ℕ) (after : List ℤ) (place : ℤ) → IsNumbered table rows → after ≡ take (2 * half) rows ++ place ∷ []
+      → IsNumbered table after
+  odd_numbered table after place n e =
+      same_places table rows after n (ap places_at e ∙ places_odd (take (2 * half) rows) place whole_rows.even ∙ whole_rows.places_are_those)
+
+  pub added_numbered : (table : List ℕ) (after : List ℤ) (place : ℕ) (value : ℤ) → IsNumbered table rows → IsNewIn (places_at rows) place
+      → place < length table → half < no_number → after ≡ take (2 * half) rows ++ pos place ∷ value ∷ []
+      → IsNumbered (set table place half) after
+  added_numbered table after place value n new long few e =
+      let count : half ≡ length (places_at rows) = places_half rows half h in
+      let places : places_at after ≡ places_at rows ++ pos place ∷ [] =
+      ap places_at e ∙ places_more (take (2 * half) rows) (pos place) value whole_rows.even
+      ∙ ap (λ ps. ps ++ pos place ∷ []) whole_rows.places_are_those in
+      let longer : length (places_at after) ≡ length (places_at rows) + 1 = ap length places ∙ length_push (places_at rows) (pos place) in
+      record {
+        known = subst (λ k. IsTable (set table place k) (places_at after)) (sym count)
+            (subst (IsTable (set table place (length (places_at rows)))) (sym places)
+            (table_added table (places_at rows) place n.known long new));
+        few = omega (arith, longer, count, few);
+      }
+
+  pub row_added : (operator : Option Combine) (after : List ℤ) (place : ℕ) (value : ℤ) → IsNewIn (places_at rows) place
+      → after ≡ take (2 * half) rows ++ pos place ∷ value ∷ [] → rows_at after ≡ joined_at operator (rows_at rows) (pos place) value
+  row_added operator after place value new e =
+      ap rows_at e
+      ∙ added_one operator (take (2 * half) rows) (pos place) value whole_rows.even
+      (λ number f. new number (ap (λ ps. slice_get ps number) (sym whole_rows.places_are_those) ∙ f))
+      ∙ ap (λ rs. joined_at operator rs (pos place) value) whole_rows.rows_are
+
+-- ---- one row after another
+
+slots_end : (rows : List ℤ) (numbers : List ℤ) → length rows < 2 → fold put_slot numbers (rows_at rows) ≡ numbers
+slots_end [] numbers h = refl
+slots_end (p ∷ []) numbers h = refl
+slots_end (p ∷ v ∷ rows) numbers h = absurd (omega arith)
+
+pub slots_over : (rows : List ℤ) (half : ℕ) (numbers start : List ℤ) → half ≡ length rows / 2
+    → fold put_slot numbers (rows_at (drop (2 * half) rows)) ≡ start → numbers ≡ start
+slots_over rows half numbers start h invariant =
+    let left = length-drop (2 * half) rows in
+    sym (slots_end (drop (2 * half) rows) numbers (omega (arith, left, h))) ∙ invariant
+
+pub slots_more : (rows : List ℤ) (at : ℕ) (d e : ℤ) (before after start : List ℤ) → 2 * at + 1 < length rows
+    → after ≡ put_slot before (get_or rows (2 * at) d, get_or rows (2 * at + 1) e)
+    → fold put_slot before (rows_at (drop (2 * at) rows)) ≡ start
+    → fold put_slot after (rows_at (drop (2 * (at + 1)) rows)) ≡ start
+slots_more rows at d e before after start h put invariant =
+    ap (λ n. fold put_slot n (rows_at (drop (2 * (at + 1)) rows))) put
+    ∙ ap (λ l. fold put_slot before (rows_at l)) (sym (two_left rows at d e h))
+    ∙ invariant

@@ -1,11 +1,14 @@
 -- Values by place, where a table has the number of each place that has come.
 use Rattle.std.specs.Prelude.{◌≡◌, ◌≤◌, ◌⊎◌, ℕ, nat_lt, ℤ, pos, if◌then◌else◌, List, [], ◌∷◌, length, slice_get, Option, Some, None}
 
--- places and values side by side
-abbrev pub rows_at : List ℤ → List ℤ → List (ℤ × ℤ)
-rows_at [] values = []
-rows_at (place ∷ places) [] = []
-rows_at (place ∷ places) (value ∷ values) = (place, value) ∷ rows_at places values
+-- place and value of each row, one after another; a last place without a value is no row
+abbrev pub rows_at : List ℤ → List (ℤ × ℤ)
+rows_at (place ∷ value ∷ numbers) = (place, value) ∷ rows_at numbers
+rows_at _ = []
+
+abbrev pub places_at : List ℤ → List ℤ
+places_at (place ∷ value ∷ numbers) = place ∷ places_at numbers
+places_at _ = []
 
 -- what the table has where a place has no number
 abbrev pub no_number : ℕ
@@ -21,11 +24,10 @@ pub record IsTable (table : List ℕ) (places : List ℤ) : Type 0 where
   pub found : (number place : ℕ) → slice_get places number ≡ Some (pos place) → slice_get table place ≡ Some number
   pub has : (place number : ℕ) → slice_get table place ≡ Some number → (number ≡ no_number) ⊎ (slice_get places number ≡ Some (pos place))
 
--- and each place has a value
-pub record IsNumbered (table : List ℕ) (places values : List ℤ) : Type 0 where
-  pub known : IsTable table places
-  pub paired : length places ≤ length values
-  pub few : length places ≤ no_number
+-- the table has the numbers of these rows
+pub record IsNumbered (table : List ℕ) (rows : List ℤ) : Type 0 where
+  pub known : IsTable table (places_at rows)
+  pub few : length (places_at rows) ≤ no_number
 
 -- a table with places behind it that have no number
 pub record IsGrown (table grown : List ℕ) : Type 0 where

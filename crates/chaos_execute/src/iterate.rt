@@ -48,8 +48,8 @@ pub fn compute(
         body,
     };
     iterations.run(alloc, prepared, &mut joining)?;
-    let here = joining.here.numbers(alloc)?;
     let ghosts = joining.ghosts.by_slots(alloc, arrays, ghosts)?;
+    let here = joining.here.into_numbers(alloc)?;
     Ok(PendingValues {
         operators,
         here,

@@ -1,21 +1,21 @@
-ghost use Rattle.std.specs.Prelude.{◌≡◌, ◌<◌, ◌≤◌, ◌^◌, [], length, pos, set, fold, slice_get, IfOk, OnOk};
-ghost use Rattle.chaos_execute.specs.Numbered.{counted, rows_at, IsGrown, IsNewIn, IsNumbered};
+ghost use Rattle.std.specs.Prelude.{◌≡◌, ◌+◌, ◌*◌, ◌<◌, ◌^◌, [], length, pos, set, fold, slice_get, OnOk};
+ghost use Rattle.chaos_execute.specs.Numbered.{counted, places_at, rows_at, IsGrown, IsNewIn, IsNumbered};
 ghost use Rattle.chaos_execute.specs.Pending.{joined_at, put_slot, rows_of};
 ghost use Rattle.chaos_move.specs.Moves.{changed, number_at};
 
-use crate::rows::{add_row, put};
+use crate::rows::put;
 use chaos_move::change;
 use fd_words::{Combine, Memory, Numbers};
 use std::alloc::Global;
 use std::marker::Model;
 
-/// Values by place, in the order in which the places came, with a table of their numbers in that order;
-/// seen as a list of pairs. The table has a word for each place up to the last.
+/// Values by place, in the order in which the places came: place and value of each, one after another,
+/// and a table of their numbers in that order; seen as a list of pairs. The table has a word for each
+/// place up to the last.
 #[derive(Drop)]
 pub struct NumberedRows {
     table: Vec<u32>,
-    places: Vec<i64>,
-    values: Vec<i64>,
+    rows: Vec<i64>,
 }
 
 impl Model for NumberedRows {
@@ -24,9 +24,9 @@ impl Model for NumberedRows {
 
     ghost Value = { List (ℤ × ℤ) };
 
-    ghost view = { λ r. rows_at r.places.items r.values.items };
+    ghost view = { λ r. rows_at r.rows.items };
 
-    ghost invariant = { λ r. IsNumbered r.table.items r.places.items r.values.items };
+    ghost invariant = { λ r. IsNumbered r.table.items r.rows.items };
 }
 
 /// Stands in a table where a place has no number.
@@ -38,8 +38,7 @@ impl NumberedRows {
     {
         NumberedRows {
             table: Vec::new(alloc),
-            places: Vec::new(alloc),
-            values: Vec::new(alloc),
+            rows: Vec::new(alloc),
         }
     }
 
@@ -48,33 +47,31 @@ impl NumberedRows {
         requires { place < 2 ^ 63 }
         ensures { OnOk result (self.new ≡ joined_at operator self.old (pos place) value) }
     {
-        match find(self.table.as_slice(), self.places.len(), place) {
+        match find(self.table.as_slice(), self.rows.len() / 2, place) {
             Some(number) => {
-                change_at(&mut self.values, operator, number, value);
+                change_at(&mut self.rows, operator, number, value);
                 Ok(())
             }
-            None => add(
-                &mut self.table,
-                &mut self.places,
-                &mut self.values,
-                place,
-                value,
-            ),
+            None => add(&mut self.table, &mut self.rows, place, value),
         }
     }
 
-    /// Place and value of each, one after another.
-    pub fn numbers(&self, alloc: Global) -> Result<Numbers, Memory>
-        ensures { IfOk result (λ numbers. numbers ≡ rows_of self.now) }
+    /// Place and value of each, one after another, as they are.
+    pub fn into_numbers(self) -> Numbers
+        ensures { result ≡ rows_of self }
     {
-        numbers_in(alloc, self.places.as_slice(), self.values.as_slice())
+        let NumberedRows {
+            table: _table,
+            rows,
+        } = self;
+        whole_rows(rows)
     }
 
     /// Puts each value in its slot.
     pub fn fill(&self, numbers: &mut Numbers)
         ensures { numbers.new ≡ fold put_slot numbers.old self.now }
     {
-        fill_from(self.places.as_slice(), self.values.as_slice(), numbers);
+        fill_from(self.rows.as_slice(), numbers);
     }
 }
 
@@ -91,35 +88,31 @@ fn find(table: &[u32], count: usize, place: u64) -> Option<usize>
     }
 }
 
-fn change_at(values: &mut Vec<i64>, operator: Option<Combine>, number: usize, value: i64)
-    requires { number < length values.old.items }
-    ensures { values.new.items ≡ set values.old.items number (changed operator (number_at values.old.items number) value) }
+fn change_at(rows: &mut Vec<i64>, operator: Option<Combine>, number: usize, value: i64)
+    requires { 2 * number + 1 < length rows.old.items }
+    ensures { rows.new.items ≡ set rows.old.items (2 * number + 1) (changed operator (number_at rows.old.items (2 * number + 1)) value) }
 {
-    values[number] = change(operator, values[number], value);
+    let at = 2 * number + 1;
+    rows[at] = change(operator, rows[at], value);
 }
 
-/// A place that is new gets the next number.
-fn add(
-    table: &mut Vec<u32>,
-    places: &mut Vec<i64>,
-    values: &mut Vec<i64>,
-    place: u64,
-    value: i64,
-) -> Result<(), Memory>
-    requires numbered { IsNumbered table.old.items places.old.items values.old.items }
+/// A place that is new gets the next number. A place whose value found no room is no row, and is written
+/// over by the next.
+fn add(table: &mut Vec<u32>, rows: &mut Vec<i64>, place: u64, value: i64) -> Result<(), Memory>
+    requires numbered { IsNumbered table.old.items rows.old.items }
     requires small { place < 2 ^ 63 }
-    requires is_new { IsNewIn places.old.items place }
-    ensures numbered { IsNumbered table.new.items places.new.items values.new.items }
-    ensures joined { (operator : _) → OnOk result (rows_at places.new.items values.new.items ≡ joined_at operator (rows_at places.old.items values.old.items) (pos place) value) }
+    requires is_new { IsNewIn (places_at rows.old.items) place }
+    ensures numbered { IsNumbered table.new.items rows.new.items }
+    ensures joined { (operator : _) → OnOk result (rows_at rows.new.items ≡ joined_at operator (rows_at rows.old.items) (pos place) value) }
 {
-    let number = places.len();
+    let number = rows.len() / 2;
     if number >= NONE as usize {
         return Err(Memory);
     }
     grow(table, place)?;
-    values.truncate(number);
-    values.push(value)?;
-    places.push(place as i64)?;
+    rows.truncate(2 * number);
+    rows.push(place as i64)?;
+    rows.push(value)?;
     table[place as usize] = number as u32;
     Ok(())
 }
@@ -135,22 +128,19 @@ fn grow(table: &mut Vec<u32>, place: u64) -> Result<(), Memory>
     Ok(())
 }
 
-fn numbers_in(alloc: Global, places: &[i64], values: &[i64]) -> Result<Numbers, Memory>
-    requires { length places.now ≤ length values.now }
-    ensures { IfOk result (λ numbers. numbers ≡ rows_of (rows_at places.now values.now)) }
+fn whole_rows(rows: Vec<i64>) -> Numbers
+    ensures { result ≡ rows_of (rows_at rows.items) }
 {
-    let mut numbers = Numbers::new(alloc);
-    for at in 0..places.len() {
-        add_row(&mut numbers, &places[at], &values[at])?;
-    }
-    Ok(numbers)
+    let mut rows = rows;
+    let count = rows.len() / 2;
+    rows.truncate(2 * count);
+    Numbers::from_vec(rows)
 }
 
-fn fill_from(places: &[i64], values: &[i64], numbers: &mut Numbers)
-    requires { length places.now ≤ length values.now }
-    ensures { numbers.new ≡ fold put_slot numbers.old (rows_at places.now values.now) }
+fn fill_from(rows: &[i64], numbers: &mut Numbers)
+    ensures { numbers.new ≡ fold put_slot numbers.old (rows_at rows.now) }
 {
-    for at in 0..places.len() {
-        put(numbers, &places[at], &values[at]);
+    for at in 0..rows.len() / 2 {
+        put(numbers, &rows[2 * at], &rows[2 * at + 1]);
     }
 }
