@@ -1,0 +1,2 @@
+pub mod SectionLoops
+pub mod Laws
