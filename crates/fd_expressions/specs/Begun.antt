@@ -7,8 +7,8 @@ use Rattle.fd_syntax.specs.declared.expr.Subscript.TheVariants as subscript
 use Rattle.fd_syntax.specs.declared.statement.Form.{Form}
 use Rattle.fd_syntax.specs.declared.statement.Form.TheVariants as form
 use Rattle.fd_grammar.specs.declared.mark.Mark.TheVariants as mark
-use Rattle.fd_grammar.specs.Machine.{State, Calm, SameName, Then, Want, Offset, AfterSubscriptName, MoreScalarFactors, MoreScalarTerms}
-use Rattle.fd_grammar.specs.Machine.{WholeScalar, PlacedScalar}
+use Rattle.fd_grammar.specs.Machine.{State, Calm, InIndexed, ThroughRest, TwiceRest, Then, Want, Offset, AfterSubscriptName}
+use Rattle.fd_grammar.specs.Machine.{MoreScalarFactors, MoreScalarTerms, WholeScalar, PlacedScalar}
 use Rattle.fd_expressions.specs.declared.subscript.Start.{Start}
 use Rattle.fd_expressions.specs.declared.subscript.Start.TheVariants as start
 
@@ -18,14 +18,15 @@ BegunSubscript index start.Index k = Then (Offset (λ add. k (subscript.Plain ad
 BegunSubscript index (start.Named name at) k = Then (AfterSubscriptName index name at k)
 BegunSubscript index start.Other k = WholeScalar (λ x. k (subscript.Scalar x))
 
--- behind the parenthesis of a subscript through an index array
-abbrev pub ThroughRest : (index name : List ℕ) → SourcePlace → (Subscript → Calm) → State
-ThroughRest index name at k = SameName index
-    (Then (Offset (λ inside. Want mark.Close (Then (Offset (λ add. k (subscript.Through name at inside add)))))))
+-- behind the first token of a subscript's parenthesis
+abbrev pub BegunIndexed : (index name : List ℕ) → SourcePlace → Start → (Subscript → Calm) → State
+BegunIndexed index name at start.Index k = ThroughRest name at k
+BegunIndexed index name at (start.Named inner inner_at) k = TwiceRest index name inner at inner_at k
+BegunIndexed index name at start.Other k = InIndexed index name at k
 
 -- behind a name, with a parenthesis or not
 abbrev pub OpenedSubscript : Bool → (index name : List ℕ) → SourcePlace → (Subscript → Calm) → State
-OpenedSubscript true index name at k = ThroughRest index name at k
+OpenedSubscript true index name at k = InIndexed index name at k
 OpenedSubscript false index name at k =
     Then (MoreScalarFactors (scalar.Named name at) (λ y. MoreScalarTerms y (λ x. k (subscript.Scalar x))))
 

@@ -1,15 +1,17 @@
-ghost use Rattle.std.specs.Prelude.{◌≡◌, ◌≤◌, ℕ, List, length};
+ghost use Rattle.std.specs.Prelude.{◌≡◌, ◌≤◌, ℕ, List, length, Err};
 ghost use Rattle.fd_words.specs.declared.source.SourcePlace.{SourcePlace};
 ghost use Rattle.fd_syntax.specs.declared.expr.Subscript.{Subscript};
 ghost use Rattle.fd_syntax.specs.declared.statement.Form.{Form};
 ghost use Rattle.fd_expressions.specs.Reads.{Reads};
-ghost use Rattle.fd_expressions.specs.Begun.{BegunSubscript, ThroughRest, OpenedSubscript, OpenedCyclic};
-ghost use Rattle.fd_grammar.specs.Machine.{Calm, run, Then, InSubscript, AfterSubscriptName, AfterCyclic, Offset, InElement, term_of};
+ghost use Rattle.fd_expressions.specs.Begun.{BegunSubscript, BegunIndexed, OpenedSubscript, OpenedCyclic};
+ghost use Rattle.fd_expressions.specs.declared.subscript.Start.TheVariants as start;
+ghost use Rattle.fd_grammar.specs.Machine.{Calm, run, Then, InSubscript, InIndexed, ThroughRest, TwiceRest, AfterSubscriptName, AfterCyclic};
+ghost use Rattle.fd_grammar.specs.Machine.{Offset, InElement, term_of};
 
 use crate::parser::Parser;
 use crate::stop::Stop;
 use crate::while_some;
-use fd_grammar::{Mark, is_word, name_of, opens, sign_of, sort_of};
+use fd_grammar::{Fixed, Mark, is_word, name_of, opens, sign_of, sort_of};
 use fd_syntax::{Element, Scalar, Subscript, Term, Terms};
 use fd_words::{Arith, Name, SourcePlace};
 use sqlite_items::Items;
@@ -91,7 +93,7 @@ impl Parser<'_> {
             result }
     {
         if self.opened() {
-            let subscript = self.through(index, name, at)?;
+            let subscript = self.indexed(index, name, at)?;
             Ok(subscript)
         } else {
             let term = self.more_scalar_factors(Scalar::Named { name, at })?;
@@ -117,12 +119,83 @@ impl Parser<'_> {
         }
     }
 
-    /// The rest of a subscript through an index array, behind its parenthesis.
-    fn through(&mut self, index: Name, name: Name, at: SourcePlace) -> Result<Subscript, Stop>
+    /// Takes the index, or another name.
+    fn begin_indexed(&mut self, index: Name) -> Start
         ensures shrinks { length self.new.rest.now ≤ length self.old.rest.now }
-        ensures reads { Reads (ThroughRest index name at) (λ x k. Then (k x)) self.old.rest.now self.new.rest.now result }
+        ensures reads { (name : List ℕ) (at : SourcePlace) (k : Subscript → Calm)
+            → run self.old.rest.now (InIndexed index name at k) ≡ run self.new.rest.now (BegunIndexed index name at result k) }
+        ensures wrong { result ≡ start.Other → (name : List ℕ) (at : SourcePlace) (k : Subscript → Calm)
+            → run self.old.rest.now (InIndexed index name at k) ≡ Err self.new.rest.now }
     {
+        let [token, rest @ ..] = self.rest else {
+            return Start::Other;
+        };
+        if is_word(token.kind, index) {
+            self.rest = rest;
+            return Start::Index;
+        }
+        match name_of(sort_of(token.kind)) {
+            Some(name) => {
+                self.rest = rest;
+                Start::Named(name, token.at)
+            }
+            None => Start::Other,
+        }
+    }
+
+    /// What stands in the parenthesis of a subscript through index arrays, and what is added behind it.
+    fn indexed(&mut self, index: Name, name: Name, at: SourcePlace) -> Result<Subscript, Stop>
+        ensures shrinks { length self.new.rest.now ≤ length self.old.rest.now }
+        ensures reads { Reads (InIndexed index name at) (λ x k. Then (k x)) self.old.rest.now self.new.rest.now result }
+    {
+        match self.begin_indexed(index) {
+            Start::Index => {
+                let subscript = self.through(name, at)?;
+                Ok(subscript)
+            }
+            Start::Named(inner, inner_at) => {
+                let subscript = self.twice(index, name, inner, at, inner_at)?;
+                Ok(subscript)
+            }
+            Start::Other => Err(Stop::Wrong),
+        }
+    }
+
+    /// The rest of a subscript through two index arrays, behind the second name.
+    fn twice(
+        &mut self,
+        index: Name,
+        outer: Name,
+        inner: Name,
+        at: SourcePlace,
+        inner_at: SourcePlace,
+    ) -> Result<Subscript, Stop>
+        ensures shrinks { length self.new.rest.now ≤ length self.old.rest.now }
+        ensures reads { Reads (TwiceRest index outer inner at inner_at) (λ x k. Then (k x)) self.old.rest.now self.new.rest.now result }
+    {
+        self.take(Fixed::Open)?;
         self.same_name(index)?;
+        let first_add = self.offset()?;
+        self.want(Mark::Close)?;
+        let second_add = self.offset()?;
+        self.want(Mark::Close)?;
+        let add = self.offset()?;
+        Ok(Subscript::Twice {
+            outer,
+            at,
+            inner,
+            inner_at,
+            first_add,
+            second_add,
+            add,
+        })
+    }
+
+    /// The rest of a subscript through an index array, behind the index.
+    fn through(&mut self, name: Name, at: SourcePlace) -> Result<Subscript, Stop>
+        ensures shrinks { length self.new.rest.now ≤ length self.old.rest.now }
+        ensures reads { Reads (ThroughRest name at) (λ x k. Then (k x)) self.old.rest.now self.new.rest.now result }
+    {
         let inner_add = self.offset()?;
         self.want(Mark::Close)?;
         let add = self.offset()?;

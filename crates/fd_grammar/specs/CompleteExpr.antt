@@ -19,16 +19,19 @@ use Rattle.fd_grammar.specs.declared.sort.Sort.{Sort}
 use Rattle.fd_grammar.specs.declared.sort.Sort.TheVariants as sort
 use Rattle.fd_grammar.specs.declared.mark.Mark.{Mark}
 use Rattle.fd_grammar.specs.declared.mark.Mark.TheVariants as mark
+use Rattle.fd_grammar.specs.declared.mark.Fixed.TheVariants as fixed
 use Rattle.fd_grammar.specs.Sorts.{sort_of, is_word, name_of, sign_by, times_of, opens}
-use Rattle.fd_grammar.specs.Machine.{State, Calm, ScalarFactor, WholeScalar, ExprFactor, WholeExpr, InSubscript, SameName, Then}
+use Rattle.fd_grammar.specs.Machine.{State, Calm, ScalarFactor, WholeScalar, ExprFactor, WholeExpr, InSubscript, InIndexed, SameName}
 use Rattle.fd_grammar.specs.Machine.{MoreScalarFactors, MoreScalarTerms, MoreExprFactors, MoreExprTerms, AfterName, AfterSubscriptName}
+use Rattle.fd_grammar.specs.Machine.{Take, Then, step_indexed}
 use Rattle.fd_grammar.specs.Machine.{MoreOffset, Want, step_want, ScalarTerm, SignedScalar, step_scalar_factor, step_lead}
 use Rattle.fd_grammar.specs.Machine.{step_whole_scalar, step_scalar_factors, step_scalar_terms, term_of, Offset, step_subscript}
 use Rattle.fd_grammar.specs.Machine.{step_after_subscript_name, element_of, InElement, ExprTerm, SignedExpr, step_expr_factor}
 use Rattle.fd_grammar.specs.Machine.{step_expr_factors, step_after_name, step, step_calm, after, run}
 use Rattle.fd_grammar.specs.Grammar.{Is, IsAgain, IsScalar, scalar_term, scalar_signed_plus, scalar_signed_minus, scalar_plus, scalar_minus}
 use Rattle.fd_grammar.specs.Grammar.{IsScalarTerm, scalar_factor, scalar_times, IsScalarFactor, scalar_number, scalar_name, scalar_inside}
-use Rattle.fd_grammar.specs.Grammar.{IsOffset, no_offset, offset_plus, offset_minus, IsSubscript, plain, through, scalar_subscript, element}
+use Rattle.fd_grammar.specs.Grammar.{IsOffset, no_offset, offset_plus, offset_minus, IsSubscript, plain, through, twice, scalar_subscript}
+use Rattle.fd_grammar.specs.Grammar.{element}
 use Rattle.fd_grammar.specs.Grammar.{IsExpr, expr_term, expr_signed_plus, expr_signed_minus, expr_plus, expr_minus, IsExprTerm, expr_factor}
 use Rattle.fd_grammar.specs.Grammar.{expr_times, IsExprFactor, expr_number, expr_name, expr_element, expr_inside}
 
@@ -251,11 +254,36 @@ reads_subscript {index} (through {us = us} {vs = vs} {name = name} {inside = ins
     (name_of (sort_of n.kind)))) (other_word index n nn)
     ∙ ap (λ s. after n (o ∷ i ∷ first) (run (o ∷ i ∷ first))
     (step_subscript index k' n.at (step_whole_scalar (λ x. k' (subscript.Scalar x)) (sort_of n.kind) n.at) false (name_of s))) en
-    ∙ go o (i ∷ first) (Then (AfterSubscriptName index name n.at k'))
-    (SameName index (Then (Offset (λ ins. Want mark.Close (behind ins))))) sort.Open eo refl
-    ∙ go_again i first index (Then (Offset (λ ins. Want mark.Close (behind ins)))) ei
+    ∙ go o (i ∷ first) (Then (AfterSubscriptName index name n.at k')) (InIndexed index name n.at k') sort.Open eo refl
+    ∙ ap (λ b. after i first (run first) (step_indexed index name n.at k' i.at b (name_of (sort_of i.kind)))) (again index i ei)
     ∙ offset_to a behind d second ed
     ∙ offset_to b (λ add. k (subscript.Through name n.at inside add)) c rest ec
+reads_subscript {index} (twice {us = us} {vs = vs} {ws = ws} {name = name} {inner = inner} {first = one} {second = two} {add = add}
+    n o m p i c' d en nn eo em nm ep ei a ec' b ed w) k c rest ec =
+    let k' : Subscript → Calm = λ s. Want mark.Close (k s) in
+    let third : List Token = ws ++ c ∷ rest in
+    let second : List Token = vs ++ d ∷ third in
+    let first : List Token = us ++ c' ∷ second in
+    let behind : List Token = p ∷ i ∷ first in
+    let last : List Term → List Term → State = λ x y.
+    Then (Offset (λ z. Want mark.Close (k (subscript.Twice name n.at inner m.at x y z)))) in
+    let middle : List Term → State = λ x. Then (Offset (λ y. Want mark.Close (last x y))) in
+    let opened : State = Then (Offset (λ x. Want mark.Close (middle x))) in
+    ap (λ l. run (n ∷ o ∷ m ∷ p ∷ i ∷ l) (InSubscript index k'))
+    (shift us (vs ++ d ∷ ws) (c ∷ rest) c' ∙ ap (λ l. us ++ c' ∷ l) (shift vs ws (c ∷ rest) d))
+    ∙ ap (λ w. after n (o ∷ m ∷ behind) (run (o ∷ m ∷ behind))
+    (step_subscript index k' n.at (step_whole_scalar (λ x. k' (subscript.Scalar x)) (sort_of n.kind) n.at) w
+    (name_of (sort_of n.kind)))) (other_word index n nn)
+    ∙ ap (λ s. after n (o ∷ m ∷ behind) (run (o ∷ m ∷ behind))
+    (step_subscript index k' n.at (step_whole_scalar (λ x. k' (subscript.Scalar x)) (sort_of n.kind) n.at) false (name_of s))) en
+    ∙ go o (m ∷ behind) (Then (AfterSubscriptName index name n.at k')) (InIndexed index name n.at k') sort.Open eo refl
+    ∙ ap (λ b. after m behind (run behind) (step_indexed index name n.at k' m.at b (name_of (sort_of m.kind)))) (other_word index m nm)
+    ∙ ap (λ s. after m behind (run behind) (step_indexed index name n.at k' m.at false (name_of s))) em
+    ∙ go p (i ∷ first) (Take fixed.Open (SameName index opened)) (SameName index opened) sort.Open ep refl
+    ∙ go_again i first index opened ei
+    ∙ offset_to a middle c' second ec'
+    ∙ offset_to b (last one) d third ed
+    ∙ offset_to w (λ z. k (subscript.Twice name n.at inner m.at one two z)) c rest ec
 reads_subscript {index} (scalar_subscript {ts = ts} {x = x} f nf i) k c rest ec =
     scalar_begins f (ts ++ c ∷ rest) index (λ s. Want mark.Close (k s)) (other_word index f nf) (scalar_calls_none i c rest (ap opens ec))
     ∙ scalar_to i mark.Close (λ y. k (subscript.Scalar y)) c rest sort.Close ec refl refl

@@ -89,14 +89,18 @@ pub data IsOffset : List Token → List Term → Type 0 where
   offset_minus : {us vs : List Token} {add : List Term} {x : Scalar} → IsOffset us add → (s : Token) → Is sort.Minus s → IsScalarTerm vs x
       → IsOffset (us ++ s ∷ vs) (add ++ record { minus = true; at = s.at; scalar = x } ∷ [])
 
--- subscript = index offset | name "(" index offset ")" offset | scalar
--- The first form is the one that begins with the index; the second begins with another name and a parenthesis.
+-- subscript = index offset | name "(" index offset ")" offset | name "(" name "(" index offset ")" offset ")" offset | scalar
+-- The first form is the one that begins with the index; the next two begin with another name and a parenthesis.
 pub data IsSubscript (index : List ℕ) : List Token → Subscript → Type 0 where
   plain : {ts : List Token} {add : List Term} (i : Token) → IsAgain index i → IsOffset ts add
       → IsSubscript index (i ∷ ts) (subscript.Plain add)
   through : {us vs : List Token} {name : List ℕ} {inside add : List Term} (n o i c : Token) → Is (Named name) n → (IsAgain index n → ⊥)
       → Is Open o → IsAgain index i → IsOffset us inside → Is Close c → IsOffset vs add
       → IsSubscript index (n ∷ o ∷ i ∷ (us ++ c ∷ vs)) (subscript.Through name n.at inside add)
+  twice : {us vs ws : List Token} {name inner : List ℕ} {first second add : List Term} (n o m p i c d : Token) → Is (Named name) n
+      → (IsAgain index n → ⊥) → Is Open o → Is (Named inner) m → (IsAgain index m → ⊥) → Is Open p → IsAgain index i
+      → IsOffset us first → Is Close c → IsOffset vs second → Is Close d → IsOffset ws add
+      → IsSubscript index (n ∷ o ∷ m ∷ p ∷ i ∷ (us ++ c ∷ (vs ++ d ∷ ws))) (subscript.Twice name n.at inner m.at first second add)
   scalar_subscript : {ts : List Token} {x : Scalar} (f : Token) → (IsAgain index f → ⊥) → IsScalar (f ∷ ts) x
       → IsSubscript index (f ∷ ts) (subscript.Scalar x)
 

@@ -73,6 +73,7 @@ mutual
     ExprFactor : (index : List ℕ) → (Expr → Calm) → State
     WholeExpr : (index : List ℕ) → (Expr → Calm) → State
     InSubscript : (index : List ℕ) → (Subscript → Calm) → State
+    InIndexed : (index name : List ℕ) → SourcePlace → (Subscript → Calm) → State
     AnyName : (Listed → State) → State
     SameName : List ℕ → State → State
     Take : Fixed → State → State
@@ -183,9 +184,22 @@ step_subscript index k at next false (Some name) = Some (Then (AfterSubscriptNam
 step_subscript index k at next false None = next
 
 abbrev pub step_after_subscript_name : (index name : List ℕ) → SourcePlace → (Subscript → Calm) → Option State → Bool → Option State
-step_after_subscript_name index name at k next true =
-    Some (SameName index (Then (Offset (λ inside. Want mark.Close (Then (Offset (λ add. k (subscript.Through name at inside add))))))))
+step_after_subscript_name index name at k next true = Some (InIndexed index name at k)
 step_after_subscript_name index name at k next false = next
+
+-- behind an index array's name and parenthesis: the index, or another index array
+abbrev pub ThroughRest : (name : List ℕ) → SourcePlace → (Subscript → Calm) → State
+ThroughRest name at k = Then (Offset (λ inside. Want mark.Close (Then (Offset (λ add. k (subscript.Through name at inside add))))))
+
+abbrev pub TwiceRest : (index name inner : List ℕ) → SourcePlace → SourcePlace → (Subscript → Calm) → State
+TwiceRest index name inner at inner_at k =
+    Take fixed.Open (SameName index (Then (Offset (λ first. Want mark.Close (Then (Offset (λ second.
+    Want mark.Close (Then (Offset (λ add. k (subscript.Twice name at inner inner_at first second add)))))))))))
+
+abbrev pub step_indexed : (index name : List ℕ) → SourcePlace → (Subscript → Calm) → SourcePlace → Bool → Option (List ℕ) → Option State
+step_indexed index name at k place true again = Some (ThroughRest name at k)
+step_indexed index name at k place false (Some inner) = Some (TwiceRest index name inner at place k)
+step_indexed index name at k place false None = None
 
 -- elements and expressions
 
@@ -440,6 +454,7 @@ step (WholeExpr index k) t c at = step_lead (SignedExpr index k) at
     (step_expr_factor index (λ x. MoreExprFactors index x (λ y. MoreExprTerms index y k)) c at) (sign_by c)
 step (InSubscript index k) t c at = step_subscript index k at (step_whole_scalar (λ x. k (subscript.Scalar x)) c at) (is_word index t)
     (name_of c)
+step (InIndexed index name place k) t c at = step_indexed index name place k at (is_word index t) (name_of c)
 step (AnyName k) t c at = step_name k at (name_of c)
 step (SameName name s) t c at = step_want (is_word name t) s
 step (Take f s) t c at = step_want (is_fixed f c) s

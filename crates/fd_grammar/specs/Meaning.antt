@@ -12,8 +12,8 @@ use Rattle.fd_syntax.specs.declared.statement.Statement.{Statement}
 use Rattle.fd_syntax.specs.declared.program.Program.{Program}
 use Rattle.fd_grammar.specs.declared.sort.Sort.TheVariants as sort
 use Rattle.fd_grammar.specs.Machine.{Closer, EndOfProgram, EndOfDo, EndOfForall, mark_of, State, Calm, ScalarFactor, WholeScalar}
-use Rattle.fd_grammar.specs.Machine.{PlacedScalar, ExprFactor, WholeExpr, InSubscript, AnyName, SameName, Take, InForm, Operator, Head}
-use Rattle.fd_grammar.specs.Machine.{Body, Close, FirstInner, MoreInner, Begin, Ended, Then, MoreScalarFactors, MoreScalarTerms}
+use Rattle.fd_grammar.specs.Machine.{PlacedScalar, ExprFactor, WholeExpr, InSubscript, InIndexed, AnyName, SameName, Take, InForm, Operator}
+use Rattle.fd_grammar.specs.Machine.{Head, Body, Close, FirstInner, MoreInner, Begin, Ended, Then, MoreScalarFactors, MoreScalarTerms}
 use Rattle.fd_grammar.specs.Machine.{MoreExprFactors, MoreExprTerms, AfterName, AfterSubscriptName, MoreOffset, AfterCyclic, MoreItems}
 use Rattle.fd_grammar.specs.Machine.{Want}
 use Rattle.fd_grammar.specs.Grammar.{Is, IsAgain, AreLines, AreListed, IsScalar, IsScalarTerm, IsScalarFactor, IsOffset, IsSubscript}
@@ -28,6 +28,11 @@ NameRest index name at ts y = (t : Token) → Is (sort.Named name) t → t.at �
 
 abbrev pub SubscriptRest : (index name : List ℕ) → SourcePlace → List Token → Subscript → Type 0
 SubscriptRest index name at ts y = (t : Token) → Is (sort.Named name) t → t.at ≡ at → (IsAgain index t → ⊥) → IsSubscript index (t ∷ ts) y
+
+-- and behind a name and a parenthesis
+abbrev pub IndexedRest : (index name : List ℕ) → SourcePlace → List Token → Subscript → Type 0
+IndexedRest index name at ts y =
+    (t o : Token) → Is (sort.Named name) t → t.at ≡ at → (IsAgain index t → ⊥) → Is sort.Open o → IsSubscript index (t ∷ o ∷ ts) y
 
 -- tokens that go on behind CYCLIC
 abbrev pub CyclicRest : List Token → Form → Type 0
@@ -70,6 +75,7 @@ abbrev mutual
   Means (ExprFactor index k) p = Front (IsExprFactor index) (λ x. MeansCalm (k x) p)
   Means (WholeExpr index k) p = Front (IsExpr index) (λ x. MeansCalm (k x) p)
   Means (InSubscript index k) p = Front (IsSubscript index) (λ x. MeansCalm (k x) p)
+  Means (InIndexed index name at k) p = Front (IndexedRest index name at) (λ x. MeansCalm (k x) p)
   Means (AnyName k) p = FirstName (λ n. Means (k n) p)
   Means (SameName name s) p = First (IsAgain name) (Means s p)
   Means (Take f s) p = First (Is (fixed_sort f)) (Means s p)

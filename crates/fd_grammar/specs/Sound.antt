@@ -15,7 +15,7 @@ use Rattle.fd_grammar.specs.declared.sort.Sort.TheVariants as sort
 use Rattle.fd_grammar.specs.declared.mark.Mark.TheVariants as mark
 use Rattle.fd_grammar.specs.Sorts.{sort_of, is_word, name_of, sign_by, times_of, opens}
 use Rattle.fd_grammar.specs.Machine.{EndOfProgram, EndOfForall, mark_of, State, Calm, ScalarFactor, WholeScalar, PlacedScalar, ExprFactor}
-use Rattle.fd_grammar.specs.Machine.{WholeExpr, InSubscript, AnyName, SameName, Take, InForm, Operator, Head, Body, Close, FirstInner}
+use Rattle.fd_grammar.specs.Machine.{WholeExpr, InSubscript, InIndexed, AnyName, SameName, Take, InForm, Operator, Head, Body, Close, FirstInner}
 use Rattle.fd_grammar.specs.Machine.{MoreInner, Begin, Ended, Then, MoreScalarFactors, MoreScalarTerms, MoreExprFactors, MoreExprTerms}
 use Rattle.fd_grammar.specs.Machine.{AfterName, AfterSubscriptName, MoreOffset, AfterCyclic, MoreItems, Want, step_want}
 use Rattle.fd_grammar.specs.Machine.{step_scalar_factors, step_scalar_terms, step_expr_factor, step_close, step_body, opening_by}
@@ -23,8 +23,8 @@ use Rattle.fd_grammar.specs.Machine.{step_begin, step_ended, is_mark, is_fixed, 
 use Rattle.fd_grammar.specs.Grammar.{Is, AreLines, no_lines, more_lines, IsHead, IsBody, IsWrittenAs, program}
 use Rattle.fd_grammar.specs.Meaning.{AreHeadAndBody, filled, Begins, begins, Means, MeansCalm, MeansNext}
 use Rattle.fd_grammar.specs.SoundParts.{s_scalar_factor, s_scalar_factors, s_scalar_terms, s_whole_scalar, placed_from, s_offset}
-use Rattle.fd_grammar.specs.SoundParts.{s_subscript, s_after_subscript_name, s_expr_factor, s_after_name, s_expr_factors, s_expr_terms}
-use Rattle.fd_grammar.specs.SoundParts.{expr_unsigned, s_expr_lead}
+use Rattle.fd_grammar.specs.SoundParts.{s_subscript, s_indexed, s_after_subscript_name, s_expr_factor, s_after_name, s_expr_factors}
+use Rattle.fd_grammar.specs.SoundParts.{s_expr_terms, expr_unsigned, s_expr_lead}
 use Rattle.fd_grammar.specs.Fronts.{one_token}
 use Rattle.fd_grammar.specs.SoundItems.{s_name, s_same, s_take, s_want, s_operator, s_close, s_form, s_after_cyclic, s_items}
 use Rattle.fd_grammar.specs.SoundLines.{program_end_of, begins_of, s_first_inner, s_more_inner, s_body, s_head}
@@ -57,6 +57,8 @@ mutual
       s_expr_lead index k p t ts (step_expr_factor index k' (sort_of t.kind) t.at) (sign_by (sort_of t.kind)) refl
       (λ n. expr_unsigned index k p (t ∷ ts) (s_expr_factor index k' p t ts (sort_of t.kind) refl n)) m
   s_step (InSubscript index k) p t ts m = s_subscript index k p t ts (is_word index t.kind) (name_of (sort_of t.kind)) refl refl m
+  s_step (InIndexed index name at k) p t ts m =
+      s_indexed index name at k p t ts (is_word index t.kind) (name_of (sort_of t.kind)) refl refl m
   s_step (AnyName k) p t ts m = s_name k p t ts (name_of (sort_of t.kind)) refl m
   s_step (SameName name s) p t ts m = s_same name s p t ts (is_word name t.kind) refl m
   s_step (Take f s) p t ts m = s_take f s p t ts (is_fixed f (sort_of t.kind)) refl m

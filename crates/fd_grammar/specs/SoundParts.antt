@@ -16,21 +16,22 @@ use Rattle.fd_syntax.specs.declared.program.Program.{Program}
 use Rattle.fd_grammar.specs.declared.sort.Sort.{Sort}
 use Rattle.fd_grammar.specs.declared.sort.Sort.TheVariants as sort
 use Rattle.fd_grammar.specs.Sorts.{sort_of, is_word, name_of, sign_by, times_of, opens}
-use Rattle.fd_grammar.specs.Machine.{State, Calm, ScalarFactor, WholeScalar, ExprFactor, WholeExpr, InSubscript, MoreScalarFactors}
+use Rattle.fd_grammar.specs.Machine.{State, Calm, ScalarFactor, WholeScalar, ExprFactor, WholeExpr, InSubscript, InIndexed}
+use Rattle.fd_grammar.specs.Machine.{step_indexed, MoreScalarFactors}
 use Rattle.fd_grammar.specs.Machine.{MoreScalarTerms, MoreExprFactors, MoreExprTerms, AfterName, AfterSubscriptName, MoreOffset, ScalarTerm}
 use Rattle.fd_grammar.specs.Machine.{SignedScalar, step_scalar_factor, step_lead, step_whole_scalar, step_scalar_factors, step_scalar_terms}
 use Rattle.fd_grammar.specs.Machine.{term_of, step_offset, step_subscript, step_after_subscript_name, element_of, InElement, ExprTerm}
 use Rattle.fd_grammar.specs.Machine.{SignedExpr, step_expr_factor, step_expr_factors, step_expr_terms, step_after_name}
 use Rattle.fd_grammar.specs.Grammar.{Is, IsAgain, IsScalar, scalar_term, scalar_signed_plus, scalar_signed_minus, scalar_plus, scalar_minus}
 use Rattle.fd_grammar.specs.Grammar.{IsScalarTerm, scalar_factor, scalar_times, IsScalarFactor, scalar_number, scalar_name, scalar_inside}
-use Rattle.fd_grammar.specs.Grammar.{IsOffset, no_offset, offset_plus, offset_minus, IsSubscript, plain, through, scalar_subscript}
+use Rattle.fd_grammar.specs.Grammar.{IsOffset, no_offset, offset_plus, offset_minus, IsSubscript, plain, through, twice, scalar_subscript}
 use Rattle.fd_grammar.specs.Grammar.{IsElement, element, IsExpr, expr_term, expr_signed_plus, expr_signed_minus, expr_plus, expr_minus}
 use Rattle.fd_grammar.specs.Grammar.{IsExprTerm, expr_factor, expr_times, IsExprFactor, expr_number, expr_name, expr_element, expr_inside}
 use Rattle.fd_grammar.specs.CompleteExpr.{again, word_again}
 use Rattle.fd_grammar.specs.TokenTests.{opens_is, name_is, sign_is, no_times_sign, times_is}
 use Rattle.fd_grammar.specs.Fronts.{Front, FrontPlaced, stays, no_token, one_token, behind_tokens, closed_by, two_phrases, begun_with}
 use Rattle.fd_grammar.specs.Fronts.{goes_on_with}
-use Rattle.fd_grammar.specs.Meaning.{SubscriptRest, Means, MeansCalm, MeansNext}
+use Rattle.fd_grammar.specs.Meaning.{IndexedRest, Means, MeansCalm, MeansNext}
 
 -- ---- scalars
 
@@ -185,32 +186,69 @@ scalar_goes_on index name at k p ts m = two_phrases subscript.Scalar [] m
     (scalar_factor (scalar_name name u f)) in
     scalar_subscript u n (j (u ∷ us) (scalar_term (i (u ∷ []) first)))
 
-pub s_after_subscript_name : (index name : List ℕ) (at : SourcePlace) (k : Subscript → Calm) (p : Program) (t : Token) (ts : List Token)
-    (next : Option State) (b : Bool) → opens (sort_of t.kind) ≡ b
-    → (MeansNext next p ts → MeansCalm (MoreScalarFactors (scalar.Named name at) (λ y. MoreScalarTerms y (λ x. k (subscript.Scalar x)))) p
-    (t ∷ ts))
-    → MeansNext (step_after_subscript_name index name at k next b) p ts → MeansCalm (AfterSubscriptName index name at k) p (t ∷ ts)
-s_after_subscript_name index name at k p t ts next true h go i =
-    let a = i.goes_on in
+-- behind an index array's name and parenthesis
+pub s_indexed : (index name : List ℕ) (at : SourcePlace) (k : Subscript → Calm) (p : Program) (t : Token) (ts : List Token) (b : Bool)
+    (o : Option (List ℕ)) → is_word index t.kind ≡ b → name_of (sort_of t.kind) ≡ o
+    → MeansNext (step_indexed index name at k t.at b o) p ts → Means (InIndexed index name at k) p (t ∷ ts)
+s_indexed index name at k p t ts true o h g a =
     let c = a.goes_on in
     let b = c.goes_on in
-    let is : SubscriptRest index name at (t ∷ i.token ∷ (a.front ++ c.token ∷ b.front)) (subscript.Through name at a.value b.value) =
-    λ u f g n.
-    subst (λ q. IsSubscript index (u ∷ t ∷ i.token ∷ (a.front ++ c.token ∷ b.front)) (subscript.Through name q a.value b.value)) g
-    (through u t i.token c.token f n (opens_is (sort_of t.kind) h) i.is (a.is [] no_offset) c.is (b.is [] no_offset))
+    let tail : List Token = a.front ++ c.token ∷ b.front in
+    let is : IndexedRest index name at (t ∷ tail) (subscript.Through name at a.value b.value) =
+    λ u v f g n e.
+    subst (λ q. IsSubscript index (u ∷ v ∷ t ∷ tail) (subscript.Through name q a.value b.value)) g
+    (through u v t c.token f n e (word_again index t.kind h) (a.is [] no_offset) c.is (b.is [] no_offset))
     in
-    let split : t ∷ ts ≡ (t ∷ i.token ∷ (a.front ++ c.token ∷ b.front)) ++ b.back =
-    ap (λ l. t ∷ l) (i.split ∙ ap (λ l. i.token ∷ l) (a.split ∙ ap (λ l. a.front ++ l) (c.split ∙ ap (λ l. c.token ∷ l) b.split)
-    ∙ sym (append_assoc a.front (c.token ∷ b.front) b.back)))
+    let split : t ∷ ts ≡ (t ∷ tail) ++ b.back =
+    ap (λ l. t ∷ l) (a.split ∙ ap (λ l. a.front ++ l) (c.split ∙ ap (λ l. c.token ∷ l) b.split)
+    ∙ sym (append_assoc a.front (c.token ∷ b.front) b.back))
     in
     record {
-      front = t ∷ i.token ∷ (a.front ++ c.token ∷ b.front);
+      front = t ∷ tail;
       back = b.back;
       value = subscript.Through name at a.value b.value;
       split = split;
       is = is;
       goes_on = b.goes_on;
     }
+s_indexed index name at k p t ts false (Some inner) h g' r =
+    let i = r.goes_on in
+    let a = i.goes_on in
+    let c = a.goes_on in
+    let b = c.goes_on in
+    let d = b.goes_on in
+    let w = d.goes_on in
+    let behind : List Token = b.front ++ d.token ∷ w.front in
+    let tail : List Token = t ∷ r.token ∷ i.token ∷ (a.front ++ c.token ∷ behind) in
+    let is : IndexedRest index name at tail (subscript.Twice name at inner t.at a.value b.value w.value) =
+    λ u v f g n e.
+    subst (λ q. IsSubscript index (u ∷ v ∷ tail) (subscript.Twice name q inner t.at a.value b.value w.value)) g
+    (twice u v t r.token i.token c.token d.token f n e (name_is (sort_of t.kind) inner g') (not_again index t h) r.is i.is
+    (a.is [] no_offset) c.is (b.is [] no_offset) d.is (w.is [] no_offset))
+    in
+    let behind_c : c.back ≡ behind ++ w.back =
+    b.split ∙ ap (λ l. b.front ++ l) (d.split ∙ ap (λ l. d.token ∷ l) w.split) ∙ sym (append_assoc b.front (d.token ∷ w.front) w.back) in
+    let split : t ∷ ts ≡ tail ++ w.back =
+    ap (λ l. t ∷ l) (r.split ∙ ap (λ l. r.token ∷ l) (i.split ∙ ap (λ l. i.token ∷ l)
+    (a.split ∙ ap (λ l. a.front ++ l) (c.split ∙ ap (λ l. c.token ∷ l) behind_c) ∙ sym (append_assoc a.front (c.token ∷ behind) w.back))))
+    in
+    record {
+      front = tail;
+      back = w.back;
+      value = subscript.Twice name at inner t.at a.value b.value w.value;
+      split = split;
+      is = is;
+      goes_on = w.goes_on;
+    }
+s_indexed index name at k p t ts false None h g m = absurd m
+
+pub s_after_subscript_name : (index name : List ℕ) (at : SourcePlace) (k : Subscript → Calm) (p : Program) (t : Token) (ts : List Token)
+    (next : Option State) (b : Bool) → opens (sort_of t.kind) ≡ b
+    → (MeansNext next p ts → MeansCalm (MoreScalarFactors (scalar.Named name at) (λ y. MoreScalarTerms y (λ x. k (subscript.Scalar x)))) p
+    (t ∷ ts))
+    → MeansNext (step_after_subscript_name index name at k next b) p ts → MeansCalm (AfterSubscriptName index name at k) p (t ∷ ts)
+s_after_subscript_name index name at k p t ts next true h go m =
+    behind_tokens (λ x. x) (t ∷ []) m λ us x i u f g n. i u t f g n (opens_is (sort_of t.kind) h)
 s_after_subscript_name index name at k p t ts next false h go m = scalar_goes_on index name at k p (t ∷ ts) (go m)
 
 -- an element behind its name and parenthesis

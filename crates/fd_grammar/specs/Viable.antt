@@ -25,16 +25,17 @@ use Rattle.fd_grammar.specs.declared.mark.Mark.{Mark}
 use Rattle.fd_grammar.specs.declared.mark.Mark.TheVariants as mark
 use Rattle.fd_grammar.specs.declared.mark.Fixed.{Fixed}
 use Rattle.fd_grammar.specs.declared.mark.Fixed.TheVariants as fixed
-use Rattle.fd_grammar.specs.Sorts.{reserved, sort_in, sort_of, sort_of_word, sign_by, times_of, opens}
+use Rattle.fd_grammar.specs.Sorts.{reserved, name_of, sort_in, sort_of, sort_of_word, sign_by, times_of, opens}
 use Rattle.fd_grammar.specs.Machine.{EndOfProgram, EndOfDo, EndOfForall, Item, ParameterItem, SizedItem, ListedItem, AlignedItem, Value}
-use Rattle.fd_grammar.specs.Machine.{mark_of, State, Calm, ScalarFactor, WholeScalar, PlacedScalar, ExprFactor, WholeExpr, InSubscript}
+use Rattle.fd_grammar.specs.Machine.{mark_of, State, Calm, ScalarFactor, WholeScalar, PlacedScalar, ExprFactor, WholeExpr, InSubscript, InIndexed}
 use Rattle.fd_grammar.specs.Machine.{AnyName, SameName, Take, InForm, Operator, Head, Body, Close, FirstInner, MoreInner, Begin, Ended}
 use Rattle.fd_grammar.specs.Machine.{Then, MoreScalarFactors, MoreScalarTerms, MoreExprFactors, MoreExprTerms, AfterName}
-use Rattle.fd_grammar.specs.Machine.{AfterSubscriptName, MoreOffset, AfterCyclic, MoreItems, Want, step_offset, step_after_subscript_name}
+use Rattle.fd_grammar.specs.Machine.{AfterSubscriptName, Offset, MoreOffset, AfterCyclic, MoreItems, Want, step_offset, step_indexed}
+use Rattle.fd_grammar.specs.Machine.{step_after_subscript_name}
 use Rattle.fd_grammar.specs.Machine.{step_expr_terms, step_after_cyclic, step_want, is_mark, step, step_calm, after, run, ending}
 use Rattle.fd_grammar.specs.Grammar.{Is, IsAgain, no_lines, scalar_term, scalar_factor, scalar_number, scalar_subscript, element, expr_term}
 use Rattle.fd_grammar.specs.Grammar.{expr_factor, expr_number, assigned, AreInner, last_inner, end_forall_word}
-use Rattle.fd_grammar.specs.CompleteExpr.{go, go_again, no_star, no_sign, no_star_expr, no_open}
+use Rattle.fd_grammar.specs.CompleteExpr.{go, again, go_again, no_star, no_sign, no_star_expr, no_open}
 use Rattle.fd_grammar.specs.Complete.{reads_first_inner, forall_closes}
 use Rattle.fd_grammar.specs.TokenTests.{mark_sort}
 
@@ -251,6 +252,18 @@ mutual
       let k' : Scalar → Calm = λ x. k (subscript.Scalar x) in
       by_zero (InSubscript index k) (Then (MoreScalarFactors zero_at (λ y. MoreScalarTerms y k'))) refl
       (ends_scalar k' (ends_calm (k (subscript.Scalar zero_at))))
+  ends (InIndexed index name at k) =
+      let r = ends_calm (k (subscript.Through name at [] [])) in
+      let rest : List Token = marked mark.Close ∷ marked r.0 ∷ r.1 in
+      let behind : List Term → State = λ ins. Then (Offset (λ add. k (subscript.Through name at ins add))) in (
+        word_of index ∷ rest,
+        r.2,
+        ap (λ b. after (word_of index) rest (run rest)
+            (step_indexed index name at k origin b (name_of (sort_of (kind.Word index))))) (again index (word_of index) refl)
+            ∙ offset_passes mark.Close [] (λ ins. Want mark.Close (behind ins)) (marked r.0 ∷ r.1)
+            ∙ wants mark.Close (behind []) (marked r.0 ∷ r.1)
+            ∙ offset_passes r.0 [] (λ add. k (subscript.Through name at [] add)) r.1 ∙ r.3,
+      )
   ends (AnyName k) =
       let v : Listed = record { name = letter; at = origin } in
       by_token (word_of letter) (sort.Named letter) (AnyName k) (k v) is_letter refl (ends (k v))

@@ -2,8 +2,9 @@ use crate::{Scalar, Terms};
 use fd_words::{Arith, Name, SourcePlace};
 use sqlite_items::Boxed;
 
-/// The subscript of an element: the index of the FORALL and an offset, an index array's element and an
-/// offset, or a scalar.
+/// The subscript of an element: the index of the FORALL and an offset; an index array's element at that and
+/// an offset; the element of the array `outer` at such a subscript through the array `inner`, and an offset;
+/// or a scalar.
 #[derive(Debug, Drop)]
 pub enum Subscript {
     Plain {
@@ -13,6 +14,15 @@ pub enum Subscript {
         index_array: Name,
         at: SourcePlace,
         inner_add: Terms,
+        add: Terms,
+    },
+    Twice {
+        outer: Name,
+        at: SourcePlace,
+        inner: Name,
+        inner_at: SourcePlace,
+        first_add: Terms,
+        second_add: Terms,
         add: Terms,
     },
     Scalar(Scalar),
