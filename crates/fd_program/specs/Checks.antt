@@ -23,7 +23,7 @@ use Rattle.fd_program.specs.declared.checked.Checked.{Checked}
 use Rattle.fd_program.specs.declared.checked.CheckedStatement.{CheckedStatement}
 use Rattle.fd_program.specs.declared.checked.CheckedStatement.TheVariants.{Distribute, Print, Do, Forall}
 use Rattle.fd_program.specs.declared.reference.CheckedSubscript.{CheckedSubscript}
-use Rattle.fd_program.specs.declared.reference.CheckedSubscript.TheVariants.{Plain, Through, Scalar}
+use Rattle.fd_program.specs.declared.reference.CheckedSubscript.TheVariants.{Plain, Through, Twice, Scalar}
 use Rattle.fd_program.specs.declared.reference.Reference.{Reference}
 use Rattle.fd_program.specs.declared.site.Site.{Site}
 
@@ -54,13 +54,21 @@ IsFormOf arrays layouts d (Map array) = (array < length arrays) × ((array_at ar
 abbrev pub IsPlain : CheckedSubscript → Type 0
 IsPlain (Plain add) = Unit {0}
 IsPlain (Through index_array at inner_add add) = ⊥
+IsPlain (Twice outer at inner inner_at first_add second_add add) = ⊥
 IsPlain (Scalar scalar) = ⊥
 
--- a reference: an index reference has a plain subscript
+-- what an index reference may have
+abbrev pub IsIndexing : CheckedSubscript → Type 0
+IsIndexing (Plain add) = Unit {0}
+IsIndexing (Through index_array at inner_add add) = Unit {0}
+IsIndexing (Twice outer at inner inner_at first_add second_add add) = ⊥
+IsIndexing (Scalar scalar) = ⊥
+
+-- a reference: an index reference has a plain subscript, or one through an index array
 pub record IsReference (arrays : List ArrayFacts) (r : Reference) : Type 0 where
   pub array : r.array < length arrays
   pub stamp : r.stamp < 128
-  pub index : r.role ≡ Index → IsPlain r.subscript
+  pub index : r.role ≡ Index → IsIndexing r.subscript
 
 -- the index reference that gives a reference its subscript
 pub record IsIndexFor (index_array : ℕ) (inner : CheckedSubscript) (r : Reference) : Type 0 where
@@ -68,10 +76,12 @@ pub record IsIndexFor (index_array : ℕ) (inner : CheckedSubscript) (r : Refere
   pub array : r.array ≡ index_array
   pub subscript : r.subscript ≡ inner
 
--- with this reference directly before it, a reference through an index array has its index reference there
+-- with this reference directly before it, a reference through index arrays has its index reference there
 abbrev pub IsServed : Option Reference → CheckedSubscript → Type 0
 IsServed before (Plain add) = Unit {0}
 IsServed before (Through index_array at inner_add add) = IsSomeAnd before (IsIndexFor index_array (Plain inner_add))
+IsServed before (Twice outer at inner inner_at first_add second_add add) =
+    IsSomeAnd before (IsIndexFor outer (Through inner inner_at first_add second_add))
 IsServed before (Scalar scalar) = Unit {0}
 
 abbrev pub AreServed : Option Reference → List Reference → Type 0

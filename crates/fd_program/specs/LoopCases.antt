@@ -25,7 +25,7 @@ use Rattle.fd_program.specs.declared.array.ArrayFacts.{ArrayFacts}
 use Rattle.fd_program.specs.declared.body.CheckedBody.{CheckedBody}
 use Rattle.fd_program.specs.declared.loop_use.Use.{Use}
 use Rattle.fd_program.specs.declared.reference.CheckedSubscript.{CheckedSubscript}
-use Rattle.fd_program.specs.declared.reference.CheckedSubscript.TheVariants.{Plain, Through, Scalar}
+use Rattle.fd_program.specs.declared.reference.CheckedSubscript.TheVariants.{Plain, Through, Twice, Scalar}
 use Rattle.fd_program.specs.declared.reference.Reference.{Reference}
 use Rattle.fd_program.specs.declared.site.Site.{Site}
 use Rattle.fd_program.specs.declared.trace.LoopTurn.{LoopTurn}
@@ -120,6 +120,7 @@ pub record IsPlainUse (i add : ℤ) (u : Use) : Type 0 where
 plain_first : (s : CheckedSubscript) (i add : ℤ) (before : Option ℤ) → IsPlain s → subscript_of s i add before ≡ Some (i +ℤ add)
 plain_first (Plain terms) i add before h = refl
 plain_first (Through a b c d) i add before h = absurd h
+plain_first (Twice a b c d e f g) i add before h = absurd h
 plain_first (Scalar s) i add before h = absurd h
 
 plain_use : (r : Reference) (i add : ℤ) (number : ℕ) (s : Option ℤ) → s ≡ Some (i +ℤ add) → IsPlainUse i add (use_of r i number s)

@@ -11,7 +11,7 @@ use Rattle.fd_program.specs.declared.scalar.CheckedScalar.{end_of-CheckedScalar}
 use Rattle.fd_program.specs.declared.scalar.CheckedScalar as scalar
 use Rattle.fd_program.specs.declared.scalar.CheckedTerm.{CheckedTerm}
 use Rattle.fd_program.specs.declared.reference.CheckedSubscript.{CheckedSubscript}
-use Rattle.fd_program.specs.declared.reference.CheckedSubscript.TheVariants.{Plain, Through, Scalar}
+use Rattle.fd_program.specs.declared.reference.CheckedSubscript.TheVariants.{Plain, Through, Twice, Scalar}
 
 abbrev pub scalar_value : List ℤ → CheckedScalar → ℤ
 scalar_value variables (Number value at) = value
@@ -30,6 +30,7 @@ offset_value variables total (t ∷ ts) = offset_value variables (exactly (sign_
 abbrev pub add_of : List ℤ → CheckedSubscript → ℤ
 add_of variables (Plain add) = offset_value variables (pos 0) add
 add_of variables (Through index_array at inner_add add) = offset_value variables (pos 0) add
+add_of variables (Twice outer at inner inner_at first_add second_add add) = offset_value variables (pos 0) add
 add_of variables (Scalar scalar) = scalar_value variables scalar
 
 -- ---- the same, at the variants as code writes them

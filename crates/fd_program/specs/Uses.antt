@@ -8,7 +8,7 @@ use Rattle.fd_program.specs.Stores.{number_at, is_within, element}
 use Rattle.fd_program.specs.declared.array.ArrayFacts.{ArrayFacts}
 use Rattle.fd_program.specs.declared.loop_use.Use.{Use}
 use Rattle.fd_program.specs.declared.reference.CheckedSubscript.{CheckedSubscript}
-use Rattle.fd_program.specs.declared.reference.CheckedSubscript.TheVariants.{Plain, Through, Scalar}
+use Rattle.fd_program.specs.declared.reference.CheckedSubscript.TheVariants.{Plain, Through, Twice, Scalar}
 use Rattle.fd_program.specs.declared.reference.Reference.{Reference}
 use Rattle.fd_program.specs.declared.site.Site.{Site}
 use Rattle.fd_program.specs.declared.trace.LoopTurn.{LoopTurn}
@@ -18,7 +18,15 @@ use Rattle.fd_program.specs.declared.trace.LoopTurn.{LoopTurn}
 abbrev pub subscript_of : CheckedSubscript → ℤ → ℤ → Option ℤ → Option ℤ
 subscript_of (Plain terms) i add before = Some (i +ℤ add)
 subscript_of (Through index_array at inner_add terms) i add before = option_map (λ z. z +ℤ add) before
+subscript_of (Twice outer at inner inner_at first_add second_add terms) i add before = option_map (λ z. z +ℤ add) before
 subscript_of (Scalar scalar) i add before = Some add
+
+-- the index and a number
+abbrev pub is_plain : CheckedSubscript → Bool
+is_plain (Plain add) = true
+is_plain (Through index_array at inner_add add) = false
+is_plain (Twice outer at inner inner_at first_add second_add add) = false
+is_plain (Scalar scalar) = false
 
 -- the reference with this number, where its subscript is this; a subscript without a value is 0
 abbrev pub use_of : Reference → ℤ → ℕ → Option ℤ → Use
@@ -28,6 +36,7 @@ use_of r i number subscript = record {
   role = r.role;
   array = r.array;
   stamp = r.stamp;
+  plain = is_plain r.subscript;
   defined = is_some subscript;
   subscript = unwrap_or subscript (pos 0);
 }
@@ -59,7 +68,16 @@ abbrev pub uses_of : List ArrayFacts → Site → LoopTurn → List (List ℤ) �
 uses_of arrays site turn store i = uses_from arrays turn.adds store i 0 None site.references
 
 abbrev pub no_use : Use
-no_use = record { iteration = pos 0; number = 0; role = Read; array = 0; stamp = 0; defined = false; subscript = pos 0 }
+no_use = record {
+  iteration = pos 0;
+  number = 0;
+  role = Read;
+  array = 0;
+  stamp = 0;
+  plain = false;
+  defined = false;
+  subscript = pos 0;
+}
 
 -- the reference with this number
 abbrev pub use_at : List Use → ℕ → Use
@@ -85,3 +103,12 @@ uses_told arrays adds i place before [] values = []
 uses_told arrays adds i place before (r ∷ rs) values =
     let u = use_of r i (place + 1) (subscript_of r.subscript i (number_at adds place) before) in
     u ∷ uses_told arrays adds i (place + 1) (value_told arrays u values) rs (values_behind arrays u values)
+
+-- ---- and from the values that index references with a plain subscript give; the others give nothing
+
+abbrev pub uses_known : List ArrayFacts → List ℤ → ℤ → ℕ → Option ℤ → List Reference → List ℤ → List Use
+uses_known arrays adds i place before [] firsts = []
+uses_known arrays adds i place before (r ∷ rs) firsts =
+    let u = use_of r i (place + 1) (subscript_of r.subscript i (number_at adds place) before) in
+    u ∷ uses_known arrays adds i (place + 1) (if u.plain then value_told arrays u firsts else None) rs
+    (if u.plain then values_behind arrays u firsts else firsts)

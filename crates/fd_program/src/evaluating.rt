@@ -1,7 +1,7 @@
 //! The references of an iteration, evaluated one after another.
 ghost use Rattle.std.specs.Prelude.{◌≡◌, filter_map};
 ghost use Rattle.fd_program.specs.Loops.{first_of, offence_at as offence_by};
-ghost use Rattle.fd_program.specs.Uses.{gives_index, is_met as is_met_of, subscript_of, use_of};
+ghost use Rattle.fd_program.specs.Uses.{gives_index, is_met as is_met_of, is_plain as is_plain_of, subscript_of, use_of};
 
 use crate::arrays::is_within;
 use crate::{ArrayFacts, CheckedSubscript, Reference, Use};
@@ -23,7 +23,44 @@ pub fn subscript(form: &CheckedSubscript, i: i64, add: i64, before: Option<i64>)
             Some(value) => Some(exact_sum(value, add)),
             None => None,
         },
+        CheckedSubscript::Twice {
+            outer: _,
+            at: _,
+            inner: _,
+            inner_at: _,
+            first_add: _,
+            second_add: _,
+            add: _,
+        } => match before {
+            Some(value) => Some(exact_sum(value, add)),
+            None => None,
+        },
         CheckedSubscript::Scalar(_) => Some(i128::from(add)),
+    }
+}
+
+/// Whether the subscript is the index and a number.
+pub fn is_plain(form: &CheckedSubscript) -> bool
+    ensures { result ≡ is_plain_of form.now }
+{
+    match form {
+        CheckedSubscript::Plain { add: _ } => true,
+        CheckedSubscript::Through {
+            index_array: _,
+            at: _,
+            inner_add: _,
+            add: _,
+        } => false,
+        CheckedSubscript::Twice {
+            outer: _,
+            at: _,
+            inner: _,
+            inner_at: _,
+            first_add: _,
+            second_add: _,
+            add: _,
+        } => false,
+        CheckedSubscript::Scalar(_) => false,
     }
 }
 
@@ -37,6 +74,7 @@ pub fn use_by(reference: &Reference, i: i64, number: u32, subscript: Option<i128
         role: reference.role,
         array: reference.array,
         stamp: reference.stamp,
+        plain: is_plain(&reference.subscript),
         defined: subscript.is_some(),
         subscript: subscript.unwrap_or(0),
     }

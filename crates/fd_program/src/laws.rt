@@ -7,7 +7,7 @@ ghost use Rattle.fd_program.specs.{StoreLaws.InitialStoreFits, StoreLaws.RunKeep
 ghost use Rattle.fd_program.specs.{UsesLaws.UsesAreTold, VoteLaws.ExecutedInOrder, VoteLaws.VotesTell};
 
 /// Each subscript is the exact number that its form says; through an index array it has one where the index
-/// array has the element that it reads.
+/// reference directly before it reads an element.
 pub fn subscripts_are_exact()
     ensures { SubscriptsAreExact }
 {}

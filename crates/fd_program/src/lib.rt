@@ -23,7 +23,7 @@ pub use arrays::{array_at, decomposition, extent};
 pub use body::{CheckedBody, CheckedBodyList, CheckedExpr, first_target};
 pub use checked::{Checked, CheckedStatement, CheckedStatements, Store};
 pub use count::{SiteCount, SiteCounts};
-pub use evaluating::{first_offence, gives, is_met, subscript, use_by};
+pub use evaluating::{first_offence, gives, is_met, is_plain, subscript, use_by};
 pub use loop_facts::{HomeRule, Layout, LayoutList, LoopFacts};
 pub use loop_record::LoopRecord;
 pub use loop_use::{Use, Uses};

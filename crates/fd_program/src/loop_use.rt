@@ -10,6 +10,8 @@ pub struct Use {
     pub role: Role,
     pub array: u32,
     pub stamp: u32,
+    /// Its subscript is the index and a number.
+    pub plain: bool,
     pub defined: bool,
     pub subscript: i128,
 }

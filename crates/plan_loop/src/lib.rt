@@ -4,4 +4,4 @@
 
 mod loop_phase;
 
-pub use loop_phase::{Asking, LoopPhase};
+pub use loop_phase::{Asking, Level, LoopPhase};

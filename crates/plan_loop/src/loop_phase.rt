@@ -1,5 +1,5 @@
 ghost use Rattle.std.specs.Prelude.{◌≡◌};
-ghost use Rattle.plan_loop.specs.LoopLetters.{kind_in_loop};
+ghost use Rattle.plan_loop.specs.LoopLetters.{is_at as is_at_level, kind_in_loop};
 
 use chaos_letter::Kind;
 
@@ -9,8 +9,8 @@ use chaos_letter::Kind;
 pub enum LoopPhase {
     DerefAsk(Asking),
     DerefAnswer(Asking),
-    IndexAsk,
-    IndexValues,
+    IndexAsk(Level),
+    IndexValues(Level),
     Vote,
     Iterations,
     ScheduleAsk,
@@ -18,13 +18,33 @@ pub enum LoopPhase {
     Scatter,
 }
 
-/// Whose places an inspection asks for: those of index arrays' elements, of the references that tell
-/// homes, or of all other references.
+/// Which index arrays: those that are read at the index and a number, or those that are read through
+/// another, whose elements are known once the first have given their values.
+#[derive(Clone, Copy, Debug, PartialEq, Eq)]
+pub enum Level {
+    First,
+    Second,
+}
+
+/// Whose places an inspection asks for: those of index arrays' elements, level by level, of the references
+/// that tell homes, or of all other references.
 #[derive(Clone, Copy, Debug, PartialEq, Eq)]
 pub enum Asking {
-    Indexes,
+    Indexes(Level),
     Homes,
     References,
+}
+
+impl Level {
+    /// Whether an index reference is of this level whose subscript is `plain`, or isn't.
+    pub fn is_at(self, plain: bool) -> bool
+        ensures { result ≡ is_at_level self plain }
+    {
+        match self {
+            Level::First => plain,
+            Level::Second => !plain,
+        }
+    }
 }
 
 impl LoopPhase {
@@ -35,8 +55,8 @@ impl LoopPhase {
         match self {
             LoopPhase::DerefAsk(_) => Kind::DerefAsk,
             LoopPhase::DerefAnswer(_) => Kind::DerefAnswer,
-            LoopPhase::IndexAsk => Kind::IndexAsk,
-            LoopPhase::IndexValues => Kind::IndexValues,
+            LoopPhase::IndexAsk(_) => Kind::IndexAsk,
+            LoopPhase::IndexValues(_) => Kind::IndexValues,
             LoopPhase::Vote => Kind::Vote,
             LoopPhase::Iterations => Kind::Iterations,
             LoopPhase::ScheduleAsk => Kind::ScheduleAsk,
