@@ -13,7 +13,7 @@ use Rattle.fd_syntax.specs.declared.expr.Element.{Element}
 use Rattle.fd_syntax.specs.declared.expr.Expr.{Expr, Number, Named, Read, Negate', Binary', more_of-Expr, end_of-Expr}
 use Rattle.fd_syntax.specs.declared.expr.Expr as expr
 use Rattle.fd_syntax.specs.declared.expr.Subscript.{Subscript}
-use Rattle.fd_syntax.specs.declared.expr.Subscript.TheVariants.{Plain, Through, Scalar}
+use Rattle.fd_syntax.specs.declared.expr.Subscript.TheVariants.{Plain, Through, Twice, Scalar}
 use Rattle.fd_syntax.specs.declared.statement.BodyStatement.{BodyStatement}
 use Rattle.fd_syntax.specs.declared.statement.BodyStatement.TheVariants as statement
 use Rattle.fd_program.specs.declared.body.CheckedBody.{CheckedBody}
@@ -70,6 +70,7 @@ expr_faults h a index d (Binary' op s (more_of-Expr left end_of-Expr) t (more_of
 abbrev pub is_plain : Subscript → Bool
 is_plain (Plain add) = true
 is_plain (Through index_array at inner_add add) = false
+is_plain (Twice outer at inner inner_at first second add) = false
 is_plain (Scalar s) = false
 
 -- AssignThroughIndex: an assigned target without a plain subscript

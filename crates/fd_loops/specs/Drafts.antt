@@ -29,6 +29,10 @@ start_draft used = record { references = []; terms = []; body = []; targets = []
 abbrev pub is_crowded : Draft → Bool
 is_crowded d = nat_le 64 (length d.references)
 
+-- at most one more is taken
+abbrev pub is_nearly_crowded : Draft → Bool
+is_nearly_crowded d = nat_le 63 (length d.references)
+
 abbrev pub with_reference : Draft → Reference → Draft
 with_reference d r = if is_crowded d then d else record d { references = d.references ++ r ∷ [] }
 

@@ -91,6 +91,15 @@ fn plain(subscript: &Subscript) -> bool
             inner_add: _,
             add: _,
         } => false,
+        Subscript::Twice {
+            outer: _,
+            at: _,
+            inner: _,
+            inner_at: _,
+            first_add: _,
+            second_add: _,
+            add: _,
+        } => false,
         Subscript::Scalar(_) => false,
     }
 }

@@ -1,6 +1,6 @@
 ghost use Rattle.std.specs.Prelude.{◌≡◌, ◌++◌, ◌∷◌, [], OnOk, IfOk, slice_set};
-ghost use Rattle.fd_loops.specs.Drafts.{start_draft, is_crowded, with_reference, next_number, crowd_faults, same_marks, is_stamped};
-ghost use Rattle.fd_loops.specs.Drafts.{stamp_in, used_at, stamp_for, with_stamp, after_stamp, stamp_faults, after_target};
+ghost use Rattle.fd_loops.specs.Drafts.{start_draft, is_crowded, is_nearly_crowded, with_reference, next_number, crowd_faults, same_marks};
+ghost use Rattle.fd_loops.specs.Drafts.{is_stamped, stamp_in, used_at, stamp_for, with_stamp, after_stamp, stamp_faults, after_target};
 
 use fd_program::{CheckedBodyList, CheckedScalars, Reference, References};
 use fd_resolve::{Mark, Marks};
@@ -110,6 +110,13 @@ impl Draft {
         ensures { result ≡ is_crowded self.now }
     {
         MOST_REFERENCES <= self.references.len()
+    }
+
+    /// At most one more reference is taken.
+    pub fn is_nearly_full(&self) -> bool
+        ensures { result ≡ is_nearly_crowded self.now }
+    {
+        MOST_REFERENCES - 1 <= self.references.len()
     }
 
     /// Notes a reference that is one too many.

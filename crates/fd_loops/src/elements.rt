@@ -1,5 +1,5 @@
 ghost use Rattle.std.specs.Prelude.{◌≡◌, ◌++◌, OnOk, IfOk};
-ghost use Rattle.fd_loops.specs.Elements.{index_reference, after_index, index_faults, is_index_crowded, after_own_stamp, own_stamp};
+ghost use Rattle.fd_loops.specs.Elements.{index_reference, outer_reference, after_index, index_faults, is_index_crowded, after_own_stamp, own_stamp};
 ghost use Rattle.fd_loops.specs.Elements.{own_stamp_faults, own_reference, after_own, own_faults, after_element, element_number};
 ghost use Rattle.fd_loops.specs.Elements.{element_faults};
 
@@ -11,7 +11,7 @@ use fd_resolve::{
 };
 use fd_scope::{Faults, Head};
 use fd_syntax::{Element, Subscript, Term};
-use fd_words::{Memory, Name, Role, SourceCause};
+use fd_words::{Memory, Name, Role, SourceCause, SourcePlace};
 use std::alloc::Global;
 
 fn index_of(
@@ -32,7 +32,35 @@ fn index_of(
     })
 }
 
-/// Adds the index reference of a subscript, if it has one.
+/// The index reference to an array that is read through another.
+fn outer_of(
+    alloc: Global,
+    head: &Head,
+    around: &Around,
+    outer: Name,
+    inner: Name,
+    inner_at: SourcePlace,
+    first_add: &[Term],
+    second_add: &[Term],
+) -> Result<Reference, Memory>
+    ensures { IfOk result (λ r. r ≡ outer_reference head.now around.now outer inner inner_at first_add.now second_add.now) }
+{
+    let inner_add = resolve_offset(alloc, head, around, first_add)?;
+    let add = resolve_offset(alloc, head, around, second_add)?;
+    Ok(Reference {
+        role: Role::Index,
+        array: array_or_zero(head, around, outer),
+        subscript: CheckedSubscript::Through {
+            index_array: array_or_zero(head, around, inner),
+            at: inner_at,
+            inner_add,
+            add,
+        },
+        stamp: 0,
+    })
+}
+
+/// Adds the index references of a subscript, if it has any.
 fn add_index(
     alloc: Global,
     head: &Head,
@@ -55,6 +83,37 @@ fn add_index(
             draft.note_crowd(faults, *at)?;
             let reference = index_of(alloc, head, around, *index_array, inner_add.as_slice())?;
             draft.add_reference(reference)
+        }
+        Subscript::Twice {
+            outer,
+            at,
+            inner,
+            inner_at,
+            first_add,
+            second_add,
+            add: _,
+        } => {
+            let first = first_add.as_slice();
+            let is_full = draft.is_full();
+            draft.note_crowd(faults, *inner_at)?;
+            faults.note_if(
+                draft.is_nearly_full() && !is_full,
+                *at,
+                SourceCause::TooManyReferences,
+            )?;
+            let inner_reference = index_of(alloc, head, around, *inner, first)?;
+            let outer_reference = outer_of(
+                alloc,
+                head,
+                around,
+                *outer,
+                *inner,
+                *inner_at,
+                first,
+                second_add.as_slice(),
+            )?;
+            draft.add_reference(inner_reference)?;
+            draft.add_reference(outer_reference)
         }
         Subscript::Scalar(_) => Ok(()),
     }
@@ -128,7 +187,7 @@ fn note_own_stamp(
     }
 }
 
-/// No place is left for the index reference of a subscript.
+/// No place is left for an index reference of a subscript.
 fn is_index_full(draft: &Draft, subscript: &Subscript) -> bool
     ensures { result ≡ is_index_crowded draft.now subscript.now }
 {
@@ -140,6 +199,15 @@ fn is_index_full(draft: &Draft, subscript: &Subscript) -> bool
             inner_add: _,
             add: _,
         } => draft.is_full(),
+        Subscript::Twice {
+            outer: _,
+            at: _,
+            inner: _,
+            inner_at: _,
+            first_add: _,
+            second_add: _,
+            add: _,
+        } => draft.is_nearly_full(),
         Subscript::Scalar(_) => false,
     }
 }

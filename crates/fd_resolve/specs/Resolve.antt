@@ -116,12 +116,18 @@ abbrev pub subscript_resolved : Head → Around → Subscript → CheckedSubscri
 subscript_resolved h a (subscript.Plain add) = resolved.Plain (offset_resolved h a add)
 subscript_resolved h a (subscript.Through index_array at inner_add add) =
     resolved.Through (array_or_first h a index_array) at (offset_resolved h a inner_add) (offset_resolved h a add)
+subscript_resolved h a (subscript.Twice outer at inner inner_at first second add) =
+    resolved.Twice (array_or_first h a outer) at (array_or_first h a inner) inner_at (offset_resolved h a first)
+    (offset_resolved h a second) (offset_resolved h a add)
 subscript_resolved h a (subscript.Scalar s) = resolved.Scalar (resolved_scalar h a s)
 
 abbrev pub subscript_unknowns : Head → Around → Subscript → List SourceFault
 subscript_unknowns h a (subscript.Plain add) = offset_unknowns h a add
 subscript_unknowns h a (subscript.Through index_array at inner_add add) =
     array_unknown h a index_array at ++ (offset_unknowns h a inner_add ++ offset_unknowns h a add)
+subscript_unknowns h a (subscript.Twice outer at inner inner_at first second add) =
+    array_unknown h a outer at ++ (array_unknown h a inner inner_at
+    ++ (offset_unknowns h a first ++ (offset_unknowns h a second ++ offset_unknowns h a add)))
 subscript_unknowns h a (subscript.Scalar s) = scalar_unknowns h a s
 
 abbrev pub array_mark : Option ℕ → List ℕ → Mark
@@ -132,6 +138,9 @@ abbrev pub subscript_marks : Head → Around → Subscript → List Mark
 subscript_marks h a (subscript.Plain add) = mark.Plain ∷ offset_marks h a add
 subscript_marks h a (subscript.Through index_array at inner_add add) =
     array_mark (array_called h a index_array) index_array ∷ (offset_marks h a inner_add ++ mark.Plain ∷ offset_marks h a add)
+subscript_marks h a (subscript.Twice outer at inner inner_at first second add) =
+    array_mark (array_called h a outer) outer ∷ (array_mark (array_called h a inner) inner
+    ∷ (offset_marks h a first ++ mark.Plain ∷ (offset_marks h a second ++ mark.Plain ∷ offset_marks h a add)))
 subscript_marks h a (subscript.Scalar s) = mark.Scalar ∷ scalar_marks h a s
 
 -- ---- the same, at the variants as code writes them

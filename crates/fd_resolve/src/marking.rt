@@ -112,6 +112,26 @@ pub fn marks_of(alloc: Global, head: &Head, around: &Around, subscript: &Subscri
             mark_offset(&mut marks, head, around, add.as_slice())?;
             Ok(marks)
         }
+        Subscript::Twice {
+            outer,
+            at: _,
+            inner,
+            inner_at: _,
+            first_add,
+            second_add,
+            add,
+        } => {
+            let outer_array = array_named(head, around, *outer);
+            let inner_array = array_named(head, around, *inner);
+            push(&mut marks, mark_of_array(outer_array, *outer))?;
+            push(&mut marks, mark_of_array(inner_array, *inner))?;
+            mark_offset(&mut marks, head, around, first_add.as_slice())?;
+            push(&mut marks, Mark::Plain)?;
+            mark_offset(&mut marks, head, around, second_add.as_slice())?;
+            push(&mut marks, Mark::Plain)?;
+            mark_offset(&mut marks, head, around, add.as_slice())?;
+            Ok(marks)
+        }
         Subscript::Scalar(scalar) => {
             push(&mut marks, Mark::Scalar)?;
             mark_scalar(&mut marks, head, around, scalar)?;

@@ -70,6 +70,23 @@ pub fn resolve_subscript(
             inner_add: resolve_offset(alloc, head, around, inner_add.as_slice())?,
             add: resolve_offset(alloc, head, around, add.as_slice())?,
         }),
+        Subscript::Twice {
+            outer,
+            at,
+            inner,
+            inner_at,
+            first_add,
+            second_add,
+            add,
+        } => Ok(CheckedSubscript::Twice {
+            outer: array_or_zero(head, around, *outer),
+            at: *at,
+            inner: array_or_zero(head, around, *inner),
+            inner_at: *inner_at,
+            first_add: resolve_offset(alloc, head, around, first_add.as_slice())?,
+            second_add: resolve_offset(alloc, head, around, second_add.as_slice())?,
+            add: resolve_offset(alloc, head, around, add.as_slice())?,
+        }),
         Subscript::Scalar(scalar) => {
             Ok(CheckedSubscript::Scalar(resolve(alloc, head, around, scalar)?))
         }
@@ -95,6 +112,21 @@ pub fn note_subscript(
         } => {
             note_array(head, around, faults, *index_array, *at)?;
             note_offset(head, around, faults, inner_add.as_slice())?;
+            note_offset(head, around, faults, add.as_slice())
+        }
+        Subscript::Twice {
+            outer,
+            at,
+            inner,
+            inner_at,
+            first_add,
+            second_add,
+            add,
+        } => {
+            note_array(head, around, faults, *outer, *at)?;
+            note_array(head, around, faults, *inner, *inner_at)?;
+            note_offset(head, around, faults, first_add.as_slice())?;
+            note_offset(head, around, faults, second_add.as_slice())?;
             note_offset(head, around, faults, add.as_slice())
         }
         Subscript::Scalar(scalar) => note_scalar(head, around, faults, scalar),
