@@ -5,6 +5,6 @@ mod evaluate;
 mod laws;
 mod places;
 
-pub use evaluate::{given, uses};
-pub use laws::{place_laws, reached_laws};
+pub use evaluate::{given, given_first, known, uses};
+pub use laws::{known_laws, place_laws, reached_laws};
 pub use places::{layout_of, place_by_formula, stands_at};
