@@ -54,10 +54,10 @@ IsMapped f u = (is_met f.arrays u ≡ true) × (is_map (layout_for f u.array).fo
 
 mapped_in : (f : LoopFacts) (asking : Asking) (d : ℕ) (u : Use) → is_wanted_in f asking d u ≡ true → IsMapped f u
 mapped_in f asking d u e =
-    let last = both (is_for f asking u.number u.role && is_met f.arrays u && (decomposition_met f u == d))
+    let last = both (is_for f asking u.number u.role u.plain && is_met f.arrays u && (decomposition_met f u == d))
     (is_map (layout_for f u.array).form) e in
-    let third = both (is_for f asking u.number u.role && is_met f.arrays u) (decomposition_met f u == d) last.0 in
-    ((both (is_for f asking u.number u.role) (is_met f.arrays u) third.0).1, last.1)
+    let third = both (is_for f asking u.number u.role u.plain && is_met f.arrays u) (decomposition_met f u == d) last.0 in
+    ((both (is_for f asking u.number u.role u.plain) (is_met f.arrays u) third.0).1, last.1)
 
 wanted_mapped : (f : LoopFacts) (asking : Asking) (all : List Use) (ds : List ℕ)
     → AllByRecursion (λ d. AllByRecursion (IsMapped f) (filter (is_wanted_in f asking d) all)) ds
@@ -144,7 +144,7 @@ last_two false b c = refl
 pub wanted_asked : WantedAreAsked
 wanted_asked f owners store asking p =
     let all = flat_map (uses_at f store) (asking_iterations f owners store asking p) in
-    let first : Use → Bool = λ u. is_for f asking u.number u.role && is_met f.arrays u in
+    let first : Use → Bool = λ u. is_for f asking u.number u.role u.plain && is_met f.arrays u in
     let mapped : Use → Bool = λ u. is_map (layout_for f u.array).form in
     ap (λ (g : ℕ → List Use). flat_map g (below (length f.layouts)))
     (λ i d.

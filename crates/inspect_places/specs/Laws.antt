@@ -15,7 +15,7 @@ use Rattle.inspect_places.specs.Asks.{answers_of, asks_of, by_decomposition}
 -- the references whose places p asks for, by iteration and number
 abbrev pub uses_wanted : LoopFacts → List (List ℕ) → List (List ℤ) → Asking → ℕ → List Use
 uses_wanted f owners store asking p =
-    filter (λ u. is_for f asking u.number u.role && is_met f.arrays u && is_map (layout_for f u.array).form)
+    filter (λ u. is_for f asking u.number u.role u.plain && is_met f.arrays u && is_map (layout_for f u.array).form)
     (flat_map (uses_at f store) (asking_iterations f owners store asking p))
 
 abbrev pub WantedAreAsked : Type 0
