@@ -16,7 +16,7 @@ use Rattle.fd_words.specs.declared.source.SourcePlace.{SourcePlace}
 use Rattle.fd_syntax.specs.declared.expr.Element.{Element}
 use Rattle.fd_syntax.specs.declared.expr.Expr.{Expr, Number, Named, Read, Negate', Binary', more_of-Expr, end_of-Expr}
 use Rattle.fd_syntax.specs.declared.expr.Subscript.{Subscript}
-use Rattle.fd_syntax.specs.declared.expr.Subscript.TheVariants.{Plain, Through, Scalar}
+use Rattle.fd_syntax.specs.declared.expr.Subscript.TheVariants.{Plain, Through, Twice, Scalar}
 use Rattle.fd_syntax.specs.declared.statement.BodyStatement.{BodyStatement}
 use Rattle.fd_syntax.specs.declared.statement.BodyStatement.TheVariants as statement
 use Rattle.fd_syntax.specs.declared.statement.Loop.{Loop}
@@ -40,8 +40,8 @@ use Rattle.fd_loops.specs.Bodies.{after_name, name_value, after_expr, resolved_e
 use Rattle.fd_loops.specs.Bodies.{behind_target, with_body, after_written, written_faults, after_body, body_faults}
 use Rattle.fd_loops.specs.Drafts.{is_crowded, with_reference, is_worn, stamp_in, with_stamp, same_operator, is_assigned, is_reduced}
 use Rattle.fd_loops.specs.Drafts.{is_other, is_reduced_otherwise, clash_faults, after_target}
-use Rattle.fd_loops.specs.Elements.{index_reference, after_index, after_own_stamp, own_reference, after_own, after_element, element_number}
-use Rattle.fd_loops.specs.Elements.{element_faults}
+use Rattle.fd_loops.specs.Elements.{index_reference, outer_reference, after_index, after_own_stamp, own_reference, after_own, after_element}
+use Rattle.fd_loops.specs.Elements.{element_number, element_faults}
 use Rattle.fd_resolve.specs.Resolve.{array_called, named, subscript_resolved, subscript_marks}
 use Rattle.fd_checks.specs.Walks.{site_of}
 use Rattle.fd_checks.proofs.Accepted.{left_empty, right_empty, test_false, not_false, true_not_false, is_some-some, slice_get-front}
@@ -89,6 +89,10 @@ module _ (h : Head) (a : Around) where
   index_grows : (d : Draft) (s : Subscript) → Grows d (after_index h a d s)
   index_grows d (Plain add) = stays d d refl refl
   index_grows d (Through index_array at inner_add add) = with_grows d (index_reference h a index_array inner_add)
+  index_grows d (Twice outer at inner inner_at first second add) =
+      let x = with_reference d (index_reference h a inner first) in
+      grows_more d x (with_reference x (outer_reference h a outer inner inner_at first second))
+      (with_grows d (index_reference h a inner first)) (with_grows x (outer_reference h a outer inner inner_at first second))
   index_grows d (Scalar s) = stays d d refl refl
 
   own_grows : (role : Role) (d : Draft) (e : Element) → Grows d (after_own h a role d e)
@@ -216,6 +220,7 @@ expr_is (Some operator) n v = refl
 plain_resolved : (h : Head) (a : Around) (s : Subscript) → is_plain s ≡ true → IsPlain (subscript_resolved h a s)
 plain_resolved h a (Plain add) e = tt
 plain_resolved h a (Through index_array at inner_add add) e = cc
+plain_resolved h a (Twice outer at inner inner_at first second add) e = cc
 plain_resolved h a (Scalar s) e = cc
 
 plain_known : (operator : Option Combine) (target : Element) → plain_faults operator target ≡ [] → operator ≡ None
@@ -374,21 +379,29 @@ settled rs body n s e p = λ place r there is. by_case place (p place r there is
     by_case place (inl any) = any_later (λ t. target_of t ≡ place + 1) body (s ∷ []) any
     by_case place (inr same) = Any-push (λ t. target_of t ≡ place + 1) body s (e ∙ sym same ∙ sym (add-one place))
 
+with_other : (d : Draft) (r : Reference) → r.role ≡ role.Index → (body : List CheckedBody) (n : ℕ) → Pending d.references body n
+    → Pending (with_reference d r).references body n
+with_other d r index body n p = by_test (is_crowded d)
+  where
+    no_index : role.Index ≢ role.Target
+    no_index e = cc
+
+    not_target : r.role ≢ role.Target
+    not_target e = no_index (sym index ∙ e)
+
+    by_test : (b : Bool) → Pending (if b then d else record d { references = d.references ++ r ∷ [] }).references body n
+    by_test true = p
+    by_test false = pending_other d.references body n r not_target p
+
 index_other : (h : Head) (a : Around) (d : Draft) (s : Subscript) (body : List CheckedBody) (n : ℕ) → Pending d.references body n
     → Pending (after_index h a d s).references body n
 index_other h a d (Plain add) body n p = p
 index_other h a d (Scalar s) body n p = p
-index_other h a d (Through index_array at inner_add add) body n p = by_test (is_crowded d)
-  where
-    not_target : role.Index ≢ role.Target
-    not_target e = cc
-
-    by_test : (b : Bool) → Pending (if b then d else record d {
-      references = d.references ++ index_reference h a index_array inner_add
-          ∷ [];
-    }).references body n
-    by_test true = p
-    by_test false = pending_other d.references body n (index_reference h a index_array inner_add) not_target p
+index_other h a d (Through index_array at inner_add add) body n p =
+    with_other d (index_reference h a index_array inner_add) refl body n p
+index_other h a d (Twice outer at inner inner_at first second add) body n p =
+    with_other (with_reference d (index_reference h a inner first)) (outer_reference h a outer inner inner_at first second) refl body n
+    (with_other d (index_reference h a inner first) refl body n p)
 
 read_other : (h : Head) (a : Around) (d : Draft) (e : Element) (body : List CheckedBody) (n : ℕ) → element_faults h a d e ≡ []
     → Pending d.references body n → Pending (after_element h a role.Read d e).references body n
@@ -432,6 +445,9 @@ module _ {X : Type 0} (f : Draft → X) (references : (d : Draft) (rs : List Ref
     index_same : (d : Draft) (s : Subscript) → f (after_index h a d s) ≡ f d
     index_same d (Plain add) = refl
     index_same d (Through index_array at inner_add add) = with_same d (index_reference h a index_array inner_add)
+    index_same d (Twice outer at inner inner_at first second add) =
+        let x = with_reference d (index_reference h a inner first) in
+        with_same x (outer_reference h a outer inner inner_at first second) ∙ with_same d (index_reference h a inner first)
     index_same d (Scalar s) = refl
 
     stamp_same : (d : Draft) (s : Subscript) (o : Option ℕ) → f (after_own_stamp h a d s o) ≡ f d
@@ -547,14 +563,16 @@ module _ (h : Head) (a : Around) (loop : Loop) (start : List ℕ) (known : (name
         full e = stays_full aimed target.subscript (ap (λ (rs : List Reference). nat_le 64 (length rs))
             (after_target-references d target.name operator) ∙ e)
           where
+            with_full : (x : Draft) (r : Reference) → is_crowded x ≡ true → is_crowded (with_reference x r) ≡ true
+            with_full x r f = ap (λ b. is_crowded (if b then x else record x { references = x.references ++ r ∷ [] })) f ∙ f
+
             stays_full : (x : Draft) (s : Subscript) → is_crowded x ≡ true → is_crowded (after_index h a x s) ≡ true
             stays_full x (Plain add) f = f
             stays_full x (Scalar s) f = f
-            stays_full x (Through index_array at inner_add add) f =
-                ap (λ b. is_crowded (if b then x else record x {
-                  references = x.references ++ index_reference h a index_array inner_add
-                      ∷ [];
-                })) f ∙ f
+            stays_full x (Through index_array at inner_add add) f = with_full x (index_reference h a index_array inner_add) f
+            stays_full x (Twice outer at inner inner_at first second add) f =
+                let y = with_reference x (index_reference h a inner first) in
+                with_full y (outer_reference h a outer inner inner_at first second) (with_full x (index_reference h a inner first) f)
 
         by_test : (b : Bool) → is_crowded d ≡ b → is_crowded d ≡ false
         by_test true e = absurd (true_not_false (is_crowded (after_index h a aimed target.subscript)) (full e) room)
@@ -637,20 +655,26 @@ module _ (h : Head) (a : Around) (loop : Loop) (start : List ℕ) (known : (name
         (settled_index aimed target.subscript (subst (λ (l : List Reference). AreTargets l d.body)
         (sym (after_target-references d target.name operator)) g.written)))
       where
-        settled_index : (x : Draft) (s : Subscript) → AreTargets x.references d.body → AreTargets (after_index h a x s).references d.body
-        settled_index x (Plain add) p = p
-        settled_index x (Scalar s) p = p
-        settled_index x (Through index_array at inner_add add) p = by_test (is_crowded x)
+        settled_with : (x : Draft) (r : Reference) → r.role ≡ role.Index → AreTargets x.references d.body
+            → AreTargets (with_reference x r).references d.body
+        settled_with x r index p = by_test (is_crowded x)
           where
             other : role.Index ≢ role.Target
             other e = cc
 
-            by_test : (b : Bool) → AreTargets
-                (if b then x else record x { references = x.references ++ index_reference h a index_array inner_add ∷ [] }).references
-                d.body
+            by_test : (b : Bool) → AreTargets (if b then x else record x { references = x.references ++ r ∷ [] }).references d.body
             by_test true = p
             by_test false = slice_get-push (λ (k : ℕ) (r : Reference). r.role ≡ role.Target → Any (λ s. target_of s ≡ k + 1) d.body)
-                x.references (index_reference h a index_array inner_add) p (λ is. absurd (other is))
+                x.references r p (λ is. absurd (other (sym index ∙ is)))
+
+        settled_index : (x : Draft) (s : Subscript) → AreTargets x.references d.body → AreTargets (after_index h a x s).references d.body
+        settled_index x (Plain add) p = p
+        settled_index x (Scalar s) p = p
+        settled_index x (Through index_array at inner_add add) p = settled_with x (index_reference h a index_array inner_add) refl p
+        settled_index x (Twice outer at inner inner_at first second add) p =
+            let y = with_reference x (index_reference h a inner first) in
+            settled_with y (outer_reference h a outer inner inner_at first second) refl
+            (settled_with x (index_reference h a inner first) refl p)
 
     written_sound : IsSound h a loop start (after_written h a loop.index operator target value d)
     written_sound =

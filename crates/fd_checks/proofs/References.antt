@@ -7,12 +7,13 @@ use Rattle.std.proofs.lemmas.Bool.Decides.{nat_tests}
 use Rattle.std.proofs.lemmas.List.Elements.{All-push, All-weaker, All-head, All-tail}
 use Rattle.fd_words.specs.declared.place.Role.{Role}
 use Rattle.fd_words.specs.declared.place.Role.TheVariants.{Index}
+use Rattle.fd_words.specs.declared.source.SourceFault.{SourceFault}
 use Rattle.fd_words.specs.declared.source.SourcePlace.{SourcePlace}
 use Rattle.fd_words.specs.declared.source.SourceCause.TheVariants as cause
 use Rattle.fd_syntax.specs.declared.expr.Element.{Element}
 use Rattle.fd_syntax.specs.declared.expr.Subscript.{Subscript}
-use Rattle.fd_syntax.specs.declared.expr.Subscript.TheVariants.{Plain, Through, Scalar}
-use Rattle.fd_program.specs.Checks.{IsReference}
+use Rattle.fd_syntax.specs.declared.expr.Subscript.TheVariants.{Plain, Through, Twice, Scalar}
+use Rattle.fd_program.specs.Checks.{IsIndexing, IsReference}
 use Rattle.fd_program.specs.Places.{decomposition_of}
 use Rattle.fd_program.specs.Stores.{array_at}
 use Rattle.fd_program.specs.declared.array.ArrayFacts.{ArrayFacts}
@@ -23,11 +24,11 @@ use Rattle.fd_loops.specs.declared.draft.Draft.{Draft}
 use Rattle.fd_loops.specs.declared.draft.Stamped.{Stamped}
 use Rattle.fd_resolve.specs.declared.marks.Mark.{Mark}
 use Rattle.fd_resolve.specs.declared.around.Around.{Around}
-use Rattle.fd_loops.specs.Drafts.{is_crowded, with_reference, is_stamped, stamp_in, used_at, is_worn, stamp_or_next, stamp_for, with_stamp}
-use Rattle.fd_loops.specs.Drafts.{after_stamp, stamp_faults}
-use Rattle.fd_loops.specs.Elements.{index_reference, after_index, index_faults, is_index_crowded, after_own_stamp, own_stamp}
+use Rattle.fd_loops.specs.Drafts.{is_crowded, is_nearly_crowded, with_reference, is_stamped, stamp_in, used_at, is_worn, stamp_or_next, stamp_for, with_stamp}
+use Rattle.fd_loops.specs.Drafts.{after_stamp, stamp_faults, crowd_faults}
+use Rattle.fd_loops.specs.Elements.{index_reference, outer_reference, after_index, index_faults, is_index_crowded, after_own_stamp, own_stamp}
 use Rattle.fd_loops.specs.Elements.{own_stamp_faults, own_reference, after_own, own_faults, after_element, element_number, element_faults}
-use Rattle.fd_resolve.specs.Resolve.{array_called, array_or_first, array_unknown, subscript_unknowns, subscript_marks, offset_unknowns}
+use Rattle.fd_resolve.specs.Resolve.{array_called, array_or_first, array_unknown, subscript_unknowns, subscript_marks}
 use Rattle.fd_checks.proofs.Accepted.{left_empty, right_empty, test_false, not_false, is_some-some}
 use Rattle.fd_checks.proofs.Shapes.{after_own_stamp-references}
 
@@ -45,6 +46,10 @@ and_not false n e f = refl
 index_room : (d : Draft) (s : Subscript) → index_faults d s ≡ [] → is_index_crowded d s ≡ false
 index_room d (Plain add) e = refl
 index_room d (Through index_array at inner_add add) e = test_false (is_crowded d) at _ e
+index_room d (Twice outer at inner inner_at first second add) e =
+    and_not (is_nearly_crowded d) (is_crowded d)
+    (test_false (is_nearly_crowded d && not (is_crowded d)) at _ (right_empty (crowd_faults d inner_at) _ e))
+    (test_false (is_crowded d) inner_at _ (left_empty (crowd_faults d inner_at) _ e))
 index_room d (Scalar s) e = refl
 
 module _ (h : Head) (a : Around) (d : Draft) (e : Element) where
@@ -263,34 +268,44 @@ module _ (h : Head) (a : Around) (start : List ℕ) (known : (name : List ℕ) (
       from : (k : ℕ) × (array_called h a name ≡ Some k) → array_or_first h a name < length h.tables.arrays
       from (k, is) = subst (λ (o : Option ℕ). unwrap_or o 0 < length h.tables.arrays) (sym is) (known name k is)
 
-  index_referred : (d : Draft) (s : Subscript) → subscript_unknowns h a s ≡ [] → AreReferred h.tables.arrays start d
-      → AreReferred h.tables.arrays start (after_index h a d s)
-  index_referred d (Plain add) none g = g
-  index_referred d (Scalar s) none g = g
-  index_referred d (Through index_array at inner_add add) none g = by_test (is_crowded d)
-    where
-      one : IsReferred h.tables.arrays start d.used (index_reference h a index_array inner_add)
-      one = record {
-        reference = record {
-          array = first_known index_array
-              (not_false _ (test_false (not (is_some (array_called h a index_array))) at (cause.Unknown index_array)
-              (left_empty (array_unknown h a index_array at) (offset_unknowns h a inner_add ++ offset_unknowns h a add) none)));
-          stamp = omega arith;
-          index = λ is. tt;
-        };
-        new = λ other. absurd (other refl);
-      }
+  index_is : (d : Draft) (r : Reference) → r.role ≡ Index → r.stamp ≡ 0 → IsIndexing r.subscript → r.array < length h.tables.arrays
+      → IsReferred h.tables.arrays start d.used r
+  index_is d r index unstamped form array = record {
+    reference = record { array = array; stamp = omega (arith, unstamped); index = λ is. form };
+    new = λ other. absurd (other index);
+  }
 
-      by_test : (b : Bool) → AreReferred h.tables.arrays start
-          (if b then d else record d { references = d.references ++ index_reference h a index_array inner_add ∷ [] })
+  with_referred : (d : Draft) (r : Reference) → r.role ≡ Index → r.stamp ≡ 0 → IsIndexing r.subscript → r.array < length h.tables.arrays
+      → AreReferred h.tables.arrays start d → AreReferred h.tables.arrays start (with_reference d r)
+  with_referred d r index unstamped form array g = by_test (is_crowded d)
+    where
+      by_test : (b : Bool) → AreReferred h.tables.arrays start (if b then d else record d { references = d.references ++ r ∷ [] })
       by_test true = g
       by_test false = record {
         used = g.used;
         more = g.more;
         stamped = g.stamped;
-        references = All-push (IsReferred h.tables.arrays start d.used) d.references (index_reference h a index_array inner_add)
-            g.references one;
+        references = All-push (IsReferred h.tables.arrays start d.used) d.references r g.references
+            (index_is d r index unstamped form array);
       }
+
+  array_there : (name : List ℕ) (at : SourcePlace) (rest : List SourceFault) → array_unknown h a name at ++ rest ≡ []
+      → array_or_first h a name < length h.tables.arrays
+  array_there name at rest none =
+      first_known name (not_false _ (test_false (not (is_some (array_called h a name))) at (cause.Unknown name)
+      (left_empty (array_unknown h a name at) rest none)))
+
+  index_referred : (d : Draft) (s : Subscript) → subscript_unknowns h a s ≡ [] → AreReferred h.tables.arrays start d
+      → AreReferred h.tables.arrays start (after_index h a d s)
+  index_referred d (Plain add) none g = g
+  index_referred d (Scalar s) none g = g
+  index_referred d (Through index_array at inner_add add) none g =
+      with_referred d (index_reference h a index_array inner_add) refl refl tt (array_there index_array at _ none) g
+  index_referred d (Twice outer at inner inner_at first second add) none g =
+      with_referred (with_reference d (index_reference h a inner first)) (outer_reference h a outer inner inner_at first second)
+      refl refl tt (array_there outer at _ none)
+      (with_referred d (index_reference h a inner first) refl refl tt
+      (array_there inner inner_at _ (right_empty (array_unknown h a outer at) _ none)) g)
 
   own_has : (d : Draft) (e : Element) (o : Option ℕ) (k : ℕ) → o ≡ Some k → k < length h.tables.arrays → own_stamp_faults h a d e o ≡ []
       → AreReferred h.tables.arrays start d

@@ -6,11 +6,13 @@ use Rattle.std.proofs.lemmas.Bool.Decides.{nat_tests}
 use Rattle.std.proofs.lemmas.List.Elements.{All-nil}
 use Rattle.fd_words.specs.declared.combine.Combine.{Combine}
 use Rattle.fd_words.specs.declared.place.Role.{Role}
+use Rattle.fd_words.specs.declared.source.SourcePlace.{SourcePlace}
 use Rattle.fd_words.specs.declared.place.Role.TheVariants as role
 use Rattle.fd_syntax.specs.declared.expr.Element.{Element}
 use Rattle.fd_syntax.specs.declared.expr.Expr.{Expr, Number, Named, Read, Negate', Binary', more_of-Expr, end_of-Expr}
 use Rattle.fd_syntax.specs.declared.expr.Subscript.{Subscript}
-use Rattle.fd_syntax.specs.declared.expr.Subscript.TheVariants.{Plain, Through, Scalar}
+use Rattle.fd_syntax.specs.declared.scalar.Term.{Term}
+use Rattle.fd_syntax.specs.declared.expr.Subscript.TheVariants.{Plain, Through, Twice, Scalar}
 use Rattle.fd_syntax.specs.declared.program.Program.{Program}
 use Rattle.fd_syntax.specs.declared.statement.BodyStatement.{BodyStatement}
 use Rattle.fd_syntax.specs.declared.statement.BodyStatement.TheVariants as statement
@@ -29,7 +31,7 @@ use Rattle.fd_resolve.specs.declared.marks.Mark.{Mark}
 use Rattle.fd_resolve.specs.declared.around.Around.{Around}
 use Rattle.fd_loops.specs.Bodies.{after_name, after_expr, behind_target, after_written, after_body}
 use Rattle.fd_loops.specs.Drafts.{start_draft, is_crowded, with_reference, is_worn, stamp_in, after_stamp, after_target}
-use Rattle.fd_loops.specs.Elements.{index_reference, own_reference, after_index, after_own_stamp, after_element}
+use Rattle.fd_loops.specs.Elements.{index_reference, outer_reference, own_reference, after_index, after_own_stamp, after_element}
 use Rattle.fd_resolve.specs.Resolve.{array_called, array_or_first, offset_resolved, subscript_resolved}
 use Rattle.fd_checks.specs.Shapes.{IsShaped, AreShaped}
 use Rattle.fd_checks.specs.Walks.{site_of, draft_of, start, resolved_program, IsAnswer}
@@ -94,13 +96,18 @@ pushed d e r space same s g = record {
   served = subst (λ (rs : List Reference). AreServed None rs) (sym same) (served_push None d.references r g.served s);
 }
 
-with_by : (d : Draft) (r : Reference) (b : Bool) → is_crowded d ≡ b → IsServed (last_of None d.references) r.subscript → IsGood d
+with_by : (d : Draft) (r : Reference) (b : Bool) → is_crowded d ≡ b
+    → (is_crowded d ≡ false → IsServed (last_of None d.references) r.subscript) → IsGood d
     → IsGood (if b then d else record d { references = d.references ++ r ∷ [] })
 with_by d r true e s g = g
-with_by d r false e s g = pushed d (record d { references = d.references ++ r ∷ [] }) r e refl s g
+with_by d r false e s g = pushed d (record d { references = d.references ++ r ∷ [] }) r e refl (s e) g
+
+with_room : (d : Draft) (r : Reference) → (is_crowded d ≡ false → IsServed (last_of None d.references) r.subscript) → IsGood d
+    → IsGood (with_reference d r)
+with_room d r s g = with_by d r (is_crowded d) refl s g
 
 with_good : (d : Draft) (r : Reference) → IsServed (last_of None d.references) r.subscript → IsGood d → IsGood (with_reference d r)
-with_good d r s g = with_by d r (is_crowded d) refl s g
+with_good d r s g = with_room d r (λ room. s) g
 
 module _ (h : Head) (a : Around) where
   -- a draft that is full, or whose last reference serves this subscript
@@ -108,6 +115,8 @@ module _ (h : Head) (a : Around) where
   Serves d (Plain add) = Unit {0}
   Serves d (Through index_array at inner_add add) = is_crowded d ≡ false
       → last_of None d.references ≡ Some (index_reference h a index_array inner_add)
+  Serves d (Twice outer at inner inner_at first second add) = is_crowded d ≡ false
+      → last_of None d.references ≡ Some (outer_reference h a outer inner inner_at first second)
   Serves d (Scalar s) = Unit {0}
 
   index_by : (d : Draft) (r : Reference) (b : Bool) → is_crowded d ≡ b
@@ -122,11 +131,27 @@ module _ (h : Head) (a : Around) where
   after_index-serves : (d : Draft) (s : Subscript) → Serves (after_index h a d s) s
   after_index-serves d (Plain add) = tt
   after_index-serves d (Through index_array at inner_add add) = index_by d (index_reference h a index_array inner_add) (is_crowded d) refl
+  after_index-serves d (Twice outer at inner inner_at first second add) =
+      let x = with_reference d (index_reference h a inner first) in
+      index_by x (outer_reference h a outer inner inner_at first second) (is_crowded x) refl
   after_index-serves d (Scalar s) = tt
+
+  -- the reference to an array that is read through another, behind that of the other
+  outer_served : (d : Draft) (outer inner : List ℕ) (inner_at : SourcePlace) (first second : List Term)
+      → is_crowded (with_reference d (index_reference h a inner first)) ≡ false
+      → IsServed (last_of None (with_reference d (index_reference h a inner first)).references)
+      (outer_reference h a outer inner inner_at first second).subscript
+  outer_served d outer inner inner_at first second room =
+      subst (λ (o : Option Reference). IsSomeAnd o (IsIndexFor (array_or_first h a inner)
+      (resolved.Plain (offset_resolved h a first)))) (sym (index_by d (index_reference h a inner first) (is_crowded d) refl room))
+      (record { role = refl; array = refl; subscript = refl })
 
   after_index-good : (d : Draft) (s : Subscript) → IsGood d → IsGood (after_index h a d s)
   after_index-good d (Plain add) g = g
   after_index-good d (Through index_array at inner_add add) g = with_good d (index_reference h a index_array inner_add) tt g
+  after_index-good d (Twice outer at inner inner_at first second add) g =
+      with_room (with_reference d (index_reference h a inner first)) (outer_reference h a outer inner inner_at first second)
+      (outer_served d outer inner inner_at first second) (with_good d (index_reference h a inner first) tt g)
   after_index-good d (Scalar s) g = g
 
   served_by : (d : Draft) (s : Subscript) → Serves d s → is_crowded d ≡ false
@@ -135,6 +160,10 @@ module _ (h : Head) (a : Around) where
   served_by d (Through index_array at inner_add add) p f =
       subst (λ (o : Option Reference). IsSomeAnd o (IsIndexFor (array_or_first h a index_array)
       (resolved.Plain (offset_resolved h a inner_add)))) (sym (p f))
+      (record { role = refl; array = refl; subscript = refl })
+  served_by d (Twice outer at inner inner_at first second add) p f =
+      subst (λ (o : Option Reference). IsSomeAnd o (IsIndexFor (array_or_first h a outer)
+      (resolved.Through (array_or_first h a inner) inner_at (offset_resolved h a first) (offset_resolved h a second)))) (sym (p f))
       (record { role = refl; array = refl; subscript = refl })
   served_by d (Scalar s) p f = tt
 

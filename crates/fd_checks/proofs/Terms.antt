@@ -9,7 +9,7 @@ use Rattle.fd_words.specs.declared.source.SourcePlace.{SourcePlace}
 use Rattle.fd_syntax.specs.declared.expr.Element.{Element}
 use Rattle.fd_syntax.specs.declared.expr.Expr.{Expr, Number, Named, Read, Negate', Binary', more_of-Expr, end_of-Expr}
 use Rattle.fd_syntax.specs.declared.expr.Subscript.{Subscript}
-use Rattle.fd_syntax.specs.declared.expr.Subscript.TheVariants.{Plain, Through, Scalar}
+use Rattle.fd_syntax.specs.declared.expr.Subscript.TheVariants.{Plain, Through, Twice, Scalar}
 use Rattle.fd_syntax.specs.declared.program.Program.{Program}
 use Rattle.fd_syntax.specs.declared.statement.BodyStatement.{BodyStatement}
 use Rattle.fd_syntax.specs.declared.statement.BodyStatement.TheVariants as statement
@@ -45,6 +45,8 @@ with_reference-terms d r = one_of (is_crowded d) d _ d.terms refl refl
 after_index-terms : (h : Head) (a : Around) (d : Draft) (s : Subscript) → (after_index h a d s).terms ≡ d.terms
 after_index-terms h a d (Plain add) = refl
 after_index-terms h a d (Through index_array at inner_add add) = with_reference-terms d _
+after_index-terms h a d (Twice outer at inner inner_at first second add) = with_reference-terms (with_reference d _) _
+    ∙ with_reference-terms d _
 after_index-terms h a d (Scalar s) = refl
 
 after_stamp-terms : (d : Draft) (decomposition : ℕ) (offset : ℤ) (marks : List Mark) → (after_stamp d decomposition offset marks).terms

@@ -58,6 +58,7 @@ pub fn numbered(uses: &[Use], number: u32) -> Use
         role: Role::Read,
         array: 0,
         stamp: 0,
+        plain: false,
         defined: false,
         subscript: 0,
     };

@@ -14,7 +14,7 @@ use Rattle.fd_program.specs.declared.scalar.CheckedScalar.{end_of-CheckedScalar}
 use Rattle.fd_program.specs.declared.scalar.CheckedScalar as scalar
 use Rattle.fd_program.specs.declared.scalar.CheckedTerm.{CheckedTerm}
 use Rattle.fd_program.specs.declared.reference.CheckedSubscript.{CheckedSubscript}
-use Rattle.fd_program.specs.declared.reference.CheckedSubscript.TheVariants.{Plain, Through, Scalar}
+use Rattle.fd_program.specs.declared.reference.CheckedSubscript.TheVariants.{Plain, Through, Twice, Scalar}
 use Rattle.fd_program.specs.declared.reference.Reference.{Reference}
 
 -- 2^40
@@ -51,10 +51,11 @@ offset_faults variables total (t ∷ ts) =
     ++ (large t.at (exactly (sign_of t.minus) total (scalar_value variables t.scalar))
     ++ offset_faults variables (exactly (sign_of t.minus) total (scalar_value variables t.scalar)) ts)
 
--- the offset of a subscript, or the scalar that it is; the offset inside an index array's subscript is that of the index reference
+-- the offset of a subscript, or the scalar that it is; the offsets inside an index array's subscript are those of the index references
 abbrev pub add_faults : List ℤ → CheckedSubscript → List SourceFault
 add_faults variables (Plain add) = offset_faults variables (pos 0) add
 add_faults variables (Through index_array at inner_add add) = offset_faults variables (pos 0) add
+add_faults variables (Twice outer at inner inner_at first_add second_add add) = offset_faults variables (pos 0) add
 add_faults variables (Scalar s) = scalar_faults variables s
 
 -- those of a loop's references, in the order of their numbers

@@ -22,6 +22,15 @@ fn add(variables: &Numbers, subscript: &CheckedSubscript) -> Result<i64, SourceS
             inner_add: _,
             add,
         } => offset(variables, add.as_slice()),
+        CheckedSubscript::Twice {
+            outer: _,
+            at: _,
+            inner: _,
+            inner_at: _,
+            first_add: _,
+            second_add: _,
+            add,
+        } => offset(variables, add.as_slice()),
         CheckedSubscript::Scalar(scalar) => value(variables, scalar),
     }
 }
