@@ -95,6 +95,28 @@ fn copy_subscript(alloc: Global, subscript: &CheckedSubscript) -> Result<Checked
                 add,
             })
         }
+        CheckedSubscript::Twice {
+            outer,
+            at,
+            inner,
+            inner_at,
+            first_add,
+            second_add,
+            add,
+        } => {
+            let first_add = copy_terms(alloc, first_add.as_slice())?;
+            let second_add = copy_terms(alloc, second_add.as_slice())?;
+            let add = copy_terms(alloc, add.as_slice())?;
+            Ok(CheckedSubscript::Twice {
+                outer: *outer,
+                at: *at,
+                inner: *inner,
+                inner_at: *inner_at,
+                first_add,
+                second_add,
+                add,
+            })
+        }
         CheckedSubscript::Scalar(scalar) => {
             let scalar = copy_scalar(alloc, scalar)?;
             Ok(CheckedSubscript::Scalar(scalar))

@@ -20,7 +20,7 @@ use Rattle.fd_program.specs.declared.array.ArrayFacts.{ArrayFacts}
 use Rattle.fd_program.specs.declared.loop_facts.LoopFacts.{LoopFacts}
 use Rattle.fd_program.specs.declared.loop_use.Use.{Use}
 use Rattle.fd_program.specs.declared.reference.CheckedSubscript.{CheckedSubscript}
-use Rattle.fd_program.specs.declared.reference.CheckedSubscript.TheVariants.{Plain, Through, Scalar}
+use Rattle.fd_program.specs.declared.reference.CheckedSubscript.TheVariants.{Plain, Through, Twice, Scalar}
 use Rattle.fd_program.specs.declared.reference.Reference.{Reference}
 
 -- the reference directly before gives an element if it is an index reference
@@ -43,6 +43,8 @@ has_subscript : (s : CheckedSubscript) (i add : ℤ) (last : Option Reference) (
 has_subscript (Plain terms) i add last before gives served = refl
 has_subscript (Through array at inner terms) i add last before gives served =
     mapped_some before _ (by_before last before array (Plain inner) gives served)
+has_subscript (Twice outer at inner inner_at first second terms) i add last before gives served =
+    mapped_some before _ (by_before last before outer (Through inner inner_at first second) gives served)
 has_subscript (Scalar scalar) i add last before gives served = refl
 
 met_use : (arrays : List ArrayFacts) (u : Use) → u.defined ≡ true → offence_at arrays u ≡ None → is_met arrays u ≡ true

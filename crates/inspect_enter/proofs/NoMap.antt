@@ -3,6 +3,7 @@ use Rattle.std.proofs.Common.{◌≡◌, ℕ, ◌+◌, ℤ, Bool, true, false, c
 use Rattle.std.proofs.Common.{subst, ◌∙◌, true≢false}
 use Rattle.std.specs.List.{AllByRecursion, list_any, flat_map, enumerate_from}
 use Rattle.fd_program.specs.Met.{kept_uses, layout_for, is_map}
+use Rattle.fd_program.specs.Uses.{is_plain}
 use Rattle.plan_loop.specs.LoopLetters.{is_for}
 use Rattle.plan_loop.specs.declared.loop_phase.Asking.TheVariants.{References}
 use Rattle.inspect_enter.proofs.Reading.{IsOf, told_of}
@@ -20,7 +21,8 @@ abbrev IsFormula : LoopFacts → Reference → Type 0
 IsFormula f r = (not (is_index r.role) && is_map (layout_for f r.array).form) ≡ false
 
 all_formulas : (f : LoopFacts) (k : ℕ) (rs : List Reference)
-    → list_any (λ (number, r). is_for f References number r.role && is_map (layout_for f r.array).form) (enumerate_from k rs) ≡ false
+    → list_any (λ (number, r). is_for f References number r.role (is_plain r.subscript) && is_map (layout_for f r.array).form)
+    (enumerate_from k rs) ≡ false
     → AllByRecursion (IsFormula f) rs
 all_formulas f k [] e = tt
 all_formulas f k (r ∷ rs) e = (
