@@ -8,6 +8,7 @@ use Rattle.chaos_dist.specs.declared.step_form.StepForm.TheVariants.{Regular, Ma
 use Rattle.fd_program.specs.Homes.{first_target}
 use Rattle.fd_program.specs.Places.{decomposition_of}
 use Rattle.fd_program.specs.Trace.{site_at, is_empty_turn}
+use Rattle.fd_program.specs.Uses.{is_plain}
 use Rattle.fd_words.specs.Roles.{is_index, is_target}
 use Rattle.fd_program.specs.declared.array.ArrayFacts.{ArrayFacts}
 use Rattle.fd_program.specs.declared.checked.Checked.{Checked}
@@ -20,8 +21,11 @@ use Rattle.fd_program.specs.declared.trace.LoopTurn.{LoopTurn}
 use Rattle.fd_program.specs.declared.trace.Step.{Step}
 use Rattle.fd_program.specs.declared.trace.Step.TheVariants.{Distribute, Print, Forall}
 use Rattle.fd_program.specs.Met.{is_map}
+use Rattle.plan_loop.specs.LoopLetters.{is_at}
 use Rattle.plan_loop.specs.declared.loop_phase.Asking.{Asking}
 use Rattle.plan_loop.specs.declared.loop_phase.Asking.TheVariants.{Indexes, Homes, References}
+use Rattle.plan_loop.specs.declared.loop_phase.Level.{Level}
+use Rattle.plan_loop.specs.declared.loop_phase.Level.TheVariants.{First, Second}
 use Rattle.chaos_records.specs.Keeping.{no_records, setting_in, is_repeated, moved, written_at, record_in, differs}
 use Rattle.chaos_records.specs.declared.records.Records.{Records}
 use Rattle.chaos_count.specs.declared.known.Known.{Known}
@@ -32,15 +36,15 @@ abbrev pub is_looked_at_in : HomeRule → ℕ → ℕ → Bool
 is_looked_at_in Owner target place = place + 1 == target
 is_looked_at_in Most target place = true
 
-abbrev pub is_for_in : HomeRule → ℕ → Asking → ℕ → Role → Bool
-is_for_in rule target Indexes place role = is_index role
-is_for_in rule target Homes place role = is_looked_at_in rule target place
-is_for_in rule target References place role = not (is_index role)
+abbrev pub is_for_in : HomeRule → ℕ → Asking → ℕ → Role → Bool → Bool
+is_for_in rule target (Indexes level) place role plain = is_index role && is_at level plain
+is_for_in rule target Homes place role plain = is_looked_at_in rule target place
+is_for_in rule target References place role plain = not (is_index role)
 
 -- the asking is for the reference, and it has a map layout
 abbrev pub is_asked : Records → List ArrayFacts → HomeRule → ℕ → Asking → ℕ → Reference → Bool
 is_asked r arrays rule target asking place x =
-    is_for_in rule target asking place x.role && is_map (setting_in r (decomposition_of arrays x.array)).form
+    is_for_in rule target asking place x.role (is_plain x.subscript) && is_map (setting_in r (decomposition_of arrays x.array)).form
 
 -- these references, the first of them at this place
 abbrev pub asks_from : Records → List ArrayFacts → HomeRule → ℕ → Asking → ℕ → List Reference → Bool
@@ -51,17 +55,23 @@ asks_from r arrays rule target asking place (x ∷ xs) =
 abbrev pub asks_in : Records → List ArrayFacts → HomeRule → Site → Asking → Bool
 asks_in r arrays rule site asking = asks_from r arrays rule (first_target site.body) asking 0 site.references
 
-abbrev pub has_index : List Reference → Bool
-has_index references = list_any (λ (x : Reference). is_index x.role) references
+-- there are index references of this level
+abbrev pub has_indexes : List Reference → Level → Bool
+has_indexes references level = list_any (λ (x : Reference). is_index x.role && is_at level (is_plain x.subscript)) references
 
 -- ---- how many phases a step has
 
 abbrev pub two_if : Bool → ℕ
 two_if is = if is then 2 else 0
 
+-- a round of fetching the values of index arrays
+abbrev pub round_count : Records → List ArrayFacts → HomeRule → Site → Level → ℕ
+round_count r arrays rule site level =
+    two_if (asks_in r arrays rule site (Indexes level)) + two_if (has_indexes site.references level)
+
 abbrev pub inspection_count : Records → List ArrayFacts → HomeRule → Site → ℕ
 inspection_count r arrays rule site =
-    two_if (asks_in r arrays rule site Indexes) + two_if (has_index site.references)
+    round_count r arrays rule site First + round_count r arrays rule site Second
     + two_if (asks_in r arrays rule site Homes) + two_if (asks_in r arrays rule site References) + 3
 
 abbrev pub latest_at : List (Option LoopRecord) → ℕ → Option LoopRecord

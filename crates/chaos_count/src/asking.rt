@@ -1,14 +1,14 @@
 ghost use Rattle.std.specs.Prelude.{◌≡◌, ◌≤◌, ◌<◌, ◌==◌, ◌^◌, not};
 ghost use Rattle.std.specs.List.{list_any};
 ghost use Rattle.fd_program.specs.Met.{is_map as is_map_of};
-ghost use Rattle.chaos_count.specs.Counting.{asks_in, has_index as has_index_in, inspection_count, is_asked as is_asked_in, is_for_in};
-ghost use Rattle.chaos_count.specs.Counting.{is_looked_at_in, two_if as two_for};
+ghost use Rattle.chaos_count.specs.Counting.{asks_in, has_indexes as has_indexes_in, inspection_count, is_asked as is_asked_in, is_for_in};
+ghost use Rattle.chaos_count.specs.Counting.{is_looked_at_in, round_count, two_if as two_for};
 
 use chaos_dist::StepForm;
 use chaos_records::Records;
-use fd_program::{ArrayFacts, HomeRule, Reference, Site, decomposition, first_target};
+use fd_program::{ArrayFacts, HomeRule, Reference, Site, decomposition, first_target, is_plain};
 use fd_words::Role;
-use plan_loop::Asking;
+use plan_loop::{Asking, Level};
 
 /// The phases of an inspection of a FORALL without an offence, as the decompositions are now.
 pub(crate) fn inspection_phases(
@@ -18,13 +18,28 @@ pub(crate) fn inspection_phases(
     site: &Site,
 ) -> u64
     ensures count { result ≡ inspection_count records.now arrays.now rule site.now }
-    ensures few { result ≤ 11 }
+    ensures few { result ≤ 15 }
 {
-    two_if(asks(records, arrays, rule, site, Asking::Indexes))
-        + two_if(has_index(site.references.as_slice()))
+    round_phases(records, arrays, rule, site, Level::First)
+        + round_phases(records, arrays, rule, site, Level::Second)
         + two_if(asks(records, arrays, rule, site, Asking::Homes))
         + two_if(asks(records, arrays, rule, site, Asking::References))
         + 3
+}
+
+/// The phases of a round of fetching the values of index arrays.
+fn round_phases(
+    records: &Records,
+    arrays: &[ArrayFacts],
+    rule: HomeRule,
+    site: &Site,
+    level: Level,
+) -> u64
+    ensures count { result ≡ round_count records.now arrays.now rule site.now level }
+    ensures few { result ≤ 4 }
+{
+    two_if(asks(records, arrays, rule, site, Asking::Indexes(level)))
+        + two_if(has_indexes(site.references.as_slice(), level))
 }
 
 fn two_if(is: bool) -> u64
@@ -34,11 +49,13 @@ fn two_if(is: bool) -> u64
     if is { 2 } else { 0 }
 }
 
-/// Whether a FORALL has index references.
-fn has_index(references: &[Reference]) -> bool
-    ensures { result ≡ has_index_in references.now }
+/// Whether a FORALL has index references of this level.
+fn has_indexes(references: &[Reference], level: Level) -> bool
+    ensures { result ≡ has_indexes_in references.now level }
 {
-    references.iter().any(|reference| reference.role.is_index())
+    references.iter().any(|reference| {
+        reference.role.is_index() && level.is_at(is_plain(&reference.subscript))
+    })
 }
 
 /// Whether places are asked for, since a reference that the asking is for has a map layout.
@@ -73,15 +90,23 @@ fn is_asked(
     ensures { result ≡ is_asked_in records.now arrays.now rule target asking place reference.now }
 {
     let form = records.form(decomposition(arrays, reference.array));
-    is_for(rule, target, asking, place, reference.role) && is_map(form)
+    let plain = is_plain(&reference.subscript);
+    is_for(rule, target, asking, place, reference.role, plain) && is_map(form)
 }
 
-fn is_for(rule: HomeRule, target: u32, asking: Asking, place: usize, role: Role) -> bool
+fn is_for(
+    rule: HomeRule,
+    target: u32,
+    asking: Asking,
+    place: usize,
+    role: Role,
+    plain: bool,
+) -> bool
     requires { place < 2 ^ 63 }
-    ensures { result ≡ is_for_in rule target asking place role }
+    ensures { result ≡ is_for_in rule target asking place role plain }
 {
     match asking {
-        Asking::Indexes => role.is_index(),
+        Asking::Indexes(level) => role.is_index() && level.is_at(plain),
         Asking::Homes => is_looked_at(rule, target, place),
         Asking::References => !role.is_index(),
     }

@@ -22,7 +22,7 @@ pub fn phases_of(
 ) -> Result<u64, Memory>
     requires { IsChecked checked.now }
     ensures count { IfOk result (IsCount checked.now nodes rule trace.now) }
-    ensures few { IfOk result (λ n. n ≤ 13 * length trace.now + length checked.now.outputs) }
+    ensures few { IfOk result (λ n. n ≤ 17 * length trace.now + length checked.now.outputs) }
 {
     counts_are_right();
     let steps = trace.len();
@@ -39,7 +39,7 @@ fn count(alloc: Global, checked: &Checked, steps: &[Step], rule: HomeRule) -> Re
     requires checked { IsChecked checked.now }
     requires short { length steps.now < 2 ^ 31 }
     ensures count { IfOk result (λ n. n ≡ count_from 0 (nothing_known checked.now) checked.now rule steps.now) }
-    ensures few { IfOk result (λ n. n ≤ 13 * length steps.now) }
+    ensures few { IfOk result (λ n. n ≤ 17 * length steps.now) }
 {
     let mut known = Known::new(alloc, checked)?;
     let mut count = 0u64;

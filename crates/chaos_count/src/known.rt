@@ -47,7 +47,7 @@ impl Known {
         requires checked { IsChecked checked.now }
         requires execution { execution < 2 ^ 32 }
         ensures count { IfOk result (λ n. n ≡ stage_count self.old checked.now rule step.now) }
-        ensures few { IfOk result (λ n. n ≤ 13) }
+        ensures few { IfOk result (λ n. n ≤ 17) }
         ensures known { OnOk result (self.new ≡ known_after execution self.old checked.now step.now) }
     {
         match step {
@@ -84,7 +84,7 @@ impl Known {
         requires checked { IsChecked checked.now }
         requires execution { execution < 2 ^ 32 }
         ensures count { IfOk result (λ n. n ≡ forall_count self.old checked.now rule site turn.now) }
-        ensures few { IfOk result (λ n. n ≤ 13) }
+        ensures few { IfOk result (λ n. n ≤ 17) }
         ensures known { OnOk result (self.new ≡ known_after_forall execution self.old checked.now site turn.now) }
     {
         if turn.high < turn.low || site as usize >= checked.sites.len() {
@@ -102,7 +102,7 @@ impl Known {
     fn loop_phases(&self, checked: &Checked, rule: HomeRule, site: u32, present: &LoopRecord) -> u64
         requires { site < length checked.now.sites }
         ensures count { result ≡ loop_count self.now checked.now rule site present.now }
-        ensures few { result ≤ 13 }
+        ensures few { result ≤ 17 }
     {
         if is_new(self.latest.as_slice(), site, present) {
             let arrays = checked.arrays.as_slice();

@@ -180,8 +180,8 @@ module _ (X : Type 0) (sort : Kind) (its : is_data sort ≡ true) (r : Stage →
   inspection_quiet = record {
     asks = λ a. only (stage.InLoop (phase.DerefAsk a)) (not_data sort kind.DerefAsk its refl);
     answers = λ a. only (stage.InLoop (phase.DerefAnswer a)) (not_data sort kind.DerefAnswer its refl);
-    index_asks = only (stage.InLoop phase.IndexAsk) (not_data sort kind.IndexAsk its refl);
-    index_values = only (stage.InLoop phase.IndexValues) (not_data sort kind.IndexValues its refl);
+    index_asks = λ level. only (stage.InLoop (phase.IndexAsk level)) (not_data sort kind.IndexAsk its refl);
+    index_values = λ level. only (stage.InLoop (phase.IndexValues level)) (not_data sort kind.IndexValues its refl);
     iterations = only (stage.InLoop phase.Iterations) (not_data sort kind.Iterations its refl);
     schedules = only (stage.InLoop phase.ScheduleAsk) (not_data sort kind.ScheduleAsk its refl);
   }

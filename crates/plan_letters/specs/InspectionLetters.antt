@@ -111,8 +111,8 @@ vote_inspection : (n : ℕ) → QuietInspection ℕ (named kind.Vote n)
 vote_inspection n = record {
   asks = λ a. refl;
   answers = λ a. refl;
-  index_asks = refl;
-  index_values = refl;
+  index_asks = λ level. refl;
+  index_values = λ level. refl;
   iterations = refl;
   schedules = refl;
 }

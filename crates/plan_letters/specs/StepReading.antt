@@ -11,15 +11,16 @@ use Rattle.chaos_dist.specs.declared.step_form.StepForm.TheVariants.{Regular, Ma
 use Rattle.chaos_letter.specs.declared.kind.Kind.{Kind}
 use Rattle.chaos_letter.specs.declared.kind.Kind.TheVariants as kind
 use Rattle.chaos_letter.specs.declared.letter.Letter.{Letter}
-use Rattle.fd_words.specs.Roles.{is_index}
 use Rattle.fd_program.specs.declared.checked.Checked.{Checked}
 use Rattle.fd_program.specs.declared.loop_facts.HomeRule.{HomeRule}
 use Rattle.fd_program.specs.declared.loop_facts.LoopFacts.{LoopFacts}
-use Rattle.fd_program.specs.declared.reference.Reference.{Reference}
 use Rattle.fd_program.specs.declared.trace.Step.{Step}
-use Rattle.plan_loop.specs.LoopLetters.{asks_places, asking_phases, fetching_phases, phases_to_vote, phases_from_vote, executor_phases}
+use Rattle.plan_loop.specs.LoopLetters.{asks_places, asking_phases, has_level, fetching_phases, round_phases, phases_to_vote}
+use Rattle.plan_loop.specs.LoopLetters.{phases_from_vote, executor_phases}
 use Rattle.plan_loop.specs.declared.loop_phase.Asking.{Asking}
 use Rattle.plan_loop.specs.declared.loop_phase.Asking.TheVariants.{Indexes, Homes, References}
+use Rattle.plan_loop.specs.declared.loop_phase.Level.{Level}
+use Rattle.plan_loop.specs.declared.loop_phase.Level.TheVariants.{First, Second}
 use Rattle.plan_loop.specs.declared.loop_phase.LoopPhase.{LoopPhase}
 use Rattle.plan_loop.specs.declared.loop_phase.LoopPhase.TheVariants as phase
 use Rattle.plan_run.specs.Phases.{moving_stages, loop_stages, kind_of}
@@ -44,8 +45,8 @@ pub record QuietMoves (X : Type 0) (r : Stage → List X) : Type 0 where
 pub record QuietInspection (X : Type 0) (r : Stage → List X) : Type 0 where
   pub asks : (a : Asking) → r (stage.InLoop (phase.DerefAsk a)) ≡ []
   pub answers : (a : Asking) → r (stage.InLoop (phase.DerefAnswer a)) ≡ []
-  pub index_asks : r (stage.InLoop phase.IndexAsk) ≡ []
-  pub index_values : r (stage.InLoop phase.IndexValues) ≡ []
+  pub index_asks : (level : Level) → r (stage.InLoop (phase.IndexAsk level)) ≡ []
+  pub index_values : (level : Level) → r (stage.InLoop (phase.IndexValues level)) ≡ []
   pub iterations : r (stage.InLoop phase.Iterations) ≡ []
   pub schedules : r (stage.InLoop phase.ScheduleAsk) ≡ []
 
@@ -78,23 +79,31 @@ asking_tells_nothing X r quiet f a = by (asks_places f a)
         (quiet.answers a)
     by false = refl
 
-fetching_tells_nothing : (X : Type 0) (r : Stage → List X) → QuietInspection X r → (f : LoopFacts) → in_loop X r (fetching_phases f) ≡ []
-fetching_tells_nothing X r quiet f = by (list_any (λ (r : Reference). is_index r.role) f.site.references)
+fetching_tells_nothing : (X : Type 0) (r : Stage → List X) → QuietInspection X r → (f : LoopFacts) (level : Level)
+    → in_loop X r (fetching_phases f level) ≡ []
+fetching_tells_nothing X r quiet f level = by (has_level f level)
   where
-    by : (b : Bool) → in_loop X r (if b then phase.IndexAsk ∷ phase.IndexValues ∷ [] else []) ≡ []
-    by true = skip (r (stage.InLoop phase.IndexAsk)) _ quiet.index_asks ∙ skip (r (stage.InLoop phase.IndexValues)) [] quiet.index_values
+    by : (b : Bool) → in_loop X r (if b then phase.IndexAsk level ∷ phase.IndexValues level ∷ [] else []) ≡ []
+    by true = skip (r (stage.InLoop (phase.IndexAsk level))) _ (quiet.index_asks level)
+        ∙ skip (r (stage.InLoop (phase.IndexValues level))) [] (quiet.index_values level)
     by false = refl
 
 -- behind phases that tell nothing
 behind_nothing : (X : Type 0) (r : Stage → List X) (xs ys : List LoopPhase) → in_loop X r xs ≡ [] → in_loop X r (xs ++ ys) ≡ in_loop X r ys
 behind_nothing X r xs ys e = loop_joined X r xs ys ∙ skip (in_loop X r xs) (in_loop X r ys) e
 
+round_tells_nothing : (X : Type 0) (r : Stage → List X) → QuietInspection X r → (f : LoopFacts) (level : Level)
+    → in_loop X r (round_phases f level) ≡ []
+round_tells_nothing X r quiet f level =
+    behind_nothing X r (asking_phases f (Indexes level)) (fetching_phases f level) (asking_tells_nothing X r quiet f (Indexes level))
+    ∙ fetching_tells_nothing X r quiet f level
+
 pub vote_tells : (X : Type 0) (r : Stage → List X) → QuietInspection X r → (f : LoopFacts) → in_loop X r (phases_to_vote f)
     ≡ r (stage.InLoop phase.Vote)
 vote_tells X r quiet f =
-    behind_nothing X r (asking_phases f Indexes ++ fetching_phases f) (phase.Vote ∷ [])
-    (behind_nothing X r (asking_phases f Indexes) (fetching_phases f) (asking_tells_nothing X r quiet f Indexes)
-    ∙ fetching_tells_nothing X r quiet f)
+    behind_nothing X r (round_phases f First ++ round_phases f Second) (phase.Vote ∷ [])
+    (behind_nothing X r (round_phases f First) (round_phases f Second) (round_tells_nothing X r quiet f First)
+    ∙ round_tells_nothing X r quiet f Second)
     ∙ append-nil (r (stage.InLoop phase.Vote))
 
 preparing_tells_nothing : (X : Type 0) (r : Stage → List X) → QuietInspection X r → (f : LoopFacts) → in_loop X r (phases_from_vote f) ≡ []

@@ -38,9 +38,11 @@ use Rattle.fd_program.specs.declared.trace.Step.{Step}
 use Rattle.fd_program.specs.declared.trace.Step.TheVariants.{Distribute, Print, Forall}
 use Rattle.plan_tables.specs.Fits.{Fits, StandsFor, slot_for}
 use Rattle.fd_program.specs.Met.{kept_uses, decomposition_met, stands_met, local_met}
-use Rattle.plan_loop.specs.LoopLetters.{wanted_of, indexes_of, iteration_row, value_before}
+use Rattle.plan_loop.specs.LoopLetters.{wanted_of, index_uses_of, indexes_of, iteration_row, value_before}
 use Rattle.plan_loop.specs.declared.loop_phase.Asking.{Asking}
 use Rattle.plan_loop.specs.declared.loop_phase.Asking.TheVariants.{Indexes, Homes, References}
+use Rattle.plan_loop.specs.declared.loop_phase.Level.{Level}
+use Rattle.plan_loop.specs.declared.loop_phase.Level.TheVariants.{First, Second}
 use Rattle.plan_loop.specs.declared.loop_phase.LoopPhase.{LoopPhase}
 use Rattle.plan_loop.specs.declared.loop_phase.LoopPhase.TheVariants as phase
 pub use Rattle.chaos_table.specs.Pages.{place_in}
@@ -171,7 +173,12 @@ HasPlacesFor f owners store p asking h = h.places ≡ map (place_met f owners) (
 
 -- the values of the index references at the iterations that p inspects
 abbrev pub HasIndexValues : LoopFacts → List (List ℤ) → ℕ → Hand → Type 0
-HasIndexValues f store p h = h.index_values ≡ map (read_of store) (indexes_of f store p)
+HasIndexValues f store p h = h.index_values ≡ map (read_of store) (index_uses_of f store p)
+
+-- as values of a level are fetched: those of the first, in the round of the second
+abbrev pub InRound : LoopFacts → List (List ℤ) → ℕ → Level → Hand → Type 0
+InRound f store p First h = Unit {0}
+InRound f store p Second h = h.index_values ≡ map (read_of store) (indexes_of f store First p)
 
 -- the iterations that p executes, each with the values of its index references
 pub record HasIterations (f : LoopFacts) (owners : List (List ℕ)) (store : List (List ℤ)) (p : ℕ) (h : Hand) : Type 0 where
@@ -198,10 +205,13 @@ HasGhosts f owners store p tables h =
 
 -- what p has in hand as a phase of an execution begins
 abbrev pub InHandInLoop : LoopFacts → List (List ℕ) → List (List ℤ) → ℕ → List Stamps → LoopPhase → Hand → Type 0
-InHandInLoop f owners store p tables (phase.DerefAsk Indexes) h = Unit {0}
-InHandInLoop f owners store p tables (phase.DerefAnswer Indexes) h = HasWanted f owners store p Indexes h
-InHandInLoop f owners store p tables phase.IndexAsk h = HasPlacesFor f owners store p Indexes h
-InHandInLoop f owners store p tables phase.IndexValues h = h.asked ≡ map (owner_met f owners) (indexes_of f store p)
+InHandInLoop f owners store p tables (phase.DerefAsk (Indexes level)) h = InRound f store p level h
+InHandInLoop f owners store p tables (phase.DerefAnswer (Indexes level)) h = InRound f store p level h
+    × HasWanted f owners store p (Indexes level) h
+InHandInLoop f owners store p tables (phase.IndexAsk level) h = InRound f store p level h
+    × HasPlacesFor f owners store p (Indexes level) h
+InHandInLoop f owners store p tables (phase.IndexValues level) h = InRound f store p level h
+    × (h.asked ≡ map (owner_met f owners) (indexes_of f store level p))
 InHandInLoop f owners store p tables phase.Vote h = HasIndexValues f store p h
 InHandInLoop f owners store p tables (phase.DerefAsk Homes) h = HasIndexValues f store p h
 InHandInLoop f owners store p tables (phase.DerefAnswer Homes) h = HasIndexValues f store p h × HasWanted f owners store p Homes h

@@ -5,9 +5,12 @@ use Rattle.std.specs.Prelude.{is_some}
 use Rattle.std.proofs.lemmas.List.{length-map}
 use Rattle.chaos_dist.specs.declared.step_form.StepForm.{StepForm}
 use Rattle.chaos_dist.specs.declared.step_form.StepForm.TheVariants.{Regular, Map}
-use Rattle.plan_loop.specs.LoopLetters.{asks_places, asking_phases, fetching_phases, phases_to_vote, phases_from_vote, executor_phases}
+use Rattle.plan_loop.specs.LoopLetters.{asks_places, asking_phases, fetching_phases, round_phases, phases_to_vote, phases_from_vote}
+use Rattle.plan_loop.specs.LoopLetters.{executor_phases}
 use Rattle.plan_loop.specs.declared.loop_phase.Asking.{Asking}
 use Rattle.plan_loop.specs.declared.loop_phase.Asking.TheVariants.{Indexes, Homes, References}
+use Rattle.plan_loop.specs.declared.loop_phase.Level.{Level}
+use Rattle.plan_loop.specs.declared.loop_phase.Level.TheVariants.{First, Second}
 use Rattle.plan_loop.specs.declared.loop_phase.LoopPhase.{LoopPhase}
 use Rattle.plan_loop.specs.declared.loop_phase.LoopPhase.TheVariants as phase
 use Rattle.fd_program.specs.Layouts.{facts_at}
@@ -42,14 +45,23 @@ if_few : (b : Bool) (x y : LoopPhase) → length (if b then x ∷ y ∷ [] else 
 if_few true x y = omega arith
 if_few false x y = omega arith
 
-fetching_few : (f : LoopFacts) → length (fetching_phases f) ≤ 2
-fetching_few f = if_few _ phase.IndexAsk phase.IndexValues
+fetching_few : (f : LoopFacts) (level : Level) → length (fetching_phases f level) ≤ 2
+fetching_few f level = if_few _ (phase.IndexAsk level) (phase.IndexValues level)
 
-to_vote_few : (f : LoopFacts) → length (phases_to_vote f) ≤ 5
+round_few : (f : LoopFacts) (level : Level) → length (round_phases f level) ≤ 4
+round_few f level =
+    omega (
+      arith,
+      length-append (asking_phases f (Indexes level)) (fetching_phases f level),
+      asking_few f (Indexes level),
+      fetching_few f level,
+    )
+
+to_vote_few : (f : LoopFacts) → length (phases_to_vote f) ≤ 9
 to_vote_few f =
-    let before : List LoopPhase = asking_phases f Indexes ++ fetching_phases f in
+    let before : List LoopPhase = round_phases f First ++ round_phases f Second in
     let all : length (phases_to_vote f) ≡ length before + 1 = length-append before (phase.Vote ∷ []) in
-    omega (arith, all, length-append (asking_phases f Indexes) (fetching_phases f), asking_few f Indexes, fetching_few f)
+    omega (arith, all, length-append (round_phases f First) (round_phases f Second), round_few f First, round_few f Second)
 
 from_vote_few : (f : LoopFacts) → length (phases_from_vote f) ≤ 6
 from_vote_few f =
@@ -65,7 +77,7 @@ from_vote_few f =
       asking_few f References,
     )
 
-loop_few : (f : LoopFacts) (b : Bool) → length (loop_stages f b) ≤ 13
+loop_few : (f : LoopFacts) (b : Bool) → length (loop_stages f b) ≤ 17
 loop_few f true =
     let all : List LoopPhase = phases_to_vote f ++ phases_from_vote f in
     omega (
@@ -78,21 +90,21 @@ loop_few f true =
     )
 loop_few f false = omega arith
 
-moving_few : (form : StepForm) → length (moving_stages form) ≤ 13
+moving_few : (form : StepForm) → length (moving_stages form) ≤ 17
 moving_few (Regular shape) = omega arith
 moving_few (Map array) = omega arith
 
 pub stages_few : (c : Checked) (nodes : ℕ) (rule : HomeRule) (past : List Step) (step : Step) → length (stages_of c nodes rule past step)
-    ≤ 13
+    ≤ 17
 stages_few c nodes rule past (Distribute d form) = by (is_repeat c past d form)
   where
-    by : (b : Bool) → length (if b then [] else moving_stages form) ≤ 13
+    by : (b : Bool) → length (if b then [] else moving_stages form) ≤ 17
     by true = omega arith
     by false = moving_few form
 stages_few c nodes rule past (Print array) = omega arith
 stages_few c nodes rule past (Forall site turn) = by (is_empty_turn turn)
   where
-    by : (b : Bool) → length (if b then [] else loop_stages (facts_at c nodes rule past site turn) (inspects_at c past site turn)) ≤ 13
+    by : (b : Bool) → length (if b then [] else loop_stages (facts_at c nodes rule past site turn) (inspects_at c past site turn)) ≤ 17
     by true = omega arith
     by false = loop_few (facts_at c nodes rule past site turn) (inspects_at c past site turn)
 
@@ -104,7 +116,7 @@ length-before later past step execution [] = omega arith
 length-before later past step execution (stage ∷ stages) = omega (arith, length-before later past step execution stages)
 
 pub phases_few : (c : Checked) (nodes : ℕ) (rule : HomeRule) (past steps : List Step)
-    → length (phases_from c nodes rule past steps) ≤ 13 * length steps + length c.outputs
+    → length (phases_from c nodes rule past steps) ≤ 17 * length steps + length c.outputs
 phases_few c nodes rule past [] = omega (arith, length-outputs (length past) past 0 c.outputs)
 phases_few c nodes rule past (step ∷ steps) =
     omega (

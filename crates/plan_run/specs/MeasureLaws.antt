@@ -31,7 +31,7 @@ use Rattle.fd_program.specs.Runs.{Run, run_past, run_from, run_of, stores_of, re
 use Rattle.fd_program.specs.StoreLaws.{run_keeps_lengths}
 use Rattle.fd_program.specs.Stores.{FitsStore, array_at}
 use Rattle.fd_program.specs.Trace.{trace_of}
-use Rattle.fd_program.specs.Uses.{read_of, uses_from}
+use Rattle.fd_program.specs.Uses.{is_met, read_of, uses_from}
 use Rattle.fd_words.specs.Roles.{is_index, is_read, is_target}
 use Rattle.fd_program.specs.declared.array.ArrayFacts.{ArrayFacts}
 use Rattle.fd_program.specs.declared.array.LayoutName.{LayoutName}
@@ -46,11 +46,12 @@ use Rattle.fd_program.specs.declared.refused.Refused.{Refused}
 use Rattle.fd_program.specs.declared.trace.LoopTurn.{LoopTurn}
 use Rattle.fd_program.specs.declared.trace.Step.{Step}
 use Rattle.fd_program.specs.declared.trace.Step.TheVariants.{Distribute, Print, Forall}
-use Rattle.plan_loop.specs.LoopLetters.{asking_iterations, is_wanted_in, wanted_of, asked_of, page_met, indexes_of, fetched_of}
+use Rattle.plan_loop.specs.LoopLetters.{asking_iterations, is_wanted_in, wanted_of, asked_of, page_met, is_at, indexes_of}
 use Rattle.plan_loop.specs.LoopLetters.{iteration_row, ask_row_of, place_ask_of, place_answer_of, index_ask_of, row_for, value_before}
-use Rattle.plan_loop.specs.LoopLetters.{value_given}
+use Rattle.plan_loop.specs.LoopLetters.{index_uses_of, fetched_of, value_given}
 use Rattle.plan_loop.specs.declared.loop_phase.Asking.{Asking}
 use Rattle.plan_loop.specs.declared.loop_phase.Asking.TheVariants.{Indexes, Homes, References}
+use Rattle.plan_loop.specs.declared.loop_phase.Level.{Level}
 use Rattle.plan_loop.specs.declared.loop_phase.LoopPhase.{LoopPhase}
 use Rattle.plan_loop.specs.declared.loop_phase.LoopPhase.TheVariants as phase
 use Rattle.plan_run.specs.declared.stage.Stage.{Stage}
@@ -156,7 +157,7 @@ module _ (f : LoopFacts) (owners : List (List ℕ)) (store : List (List ℤ)) (w
       )
 
   asking_few : (asking : Asking) (p : ℕ) → length (asking_iterations f owners store asking p) ≤ length (iterations_of f.turn)
-  asking_few Indexes p = filter_le _ (iterations_of f.turn)
+  asking_few (Indexes level) p = filter_le _ (iterations_of f.turn)
   asking_few Homes p = filter_le _ (iterations_of f.turn)
   asking_few References p = filter_le _ (iterations_of f.turn)
 
@@ -182,15 +183,20 @@ module _ (f : LoopFacts) (owners : List (List ℕ)) (store : List (List ℤ)) (w
   executed_few : (p : ℕ) → length (executed_by f owners store p) ≤ length (iterations_of f.turn)
   executed_few p = filter_le _ (iterations_of f.turn)
 
-  indexes_few : (p : ℕ) → length (indexes_of f store p) ≤ length (flat_map (uses_at f store) (inspected_by f p))
-  indexes_few p = filter_le _ (flat_map (uses_at f store) (inspected_by f p))
-
-  fetched_few : (p q : ℕ) → length (fetched_of f owners store p q) ≤ 16777216
-  fetched_few p q =
+  indexes_few : (level : Level) (p : ℕ) → length (indexes_of f store level p) ≤ length (flat_map (uses_at f store) (inspected_by f p))
+  indexes_few level p =
       omega (
         arith,
-        filter_le (λ u. owner_met f owners u == q) (indexes_of f store p),
-        indexes_few p,
+        filter_le (λ u. is_at level u.plain) (index_uses_of f store p),
+        filter_le (λ u. is_index u.role && is_met f.arrays u) (flat_map (uses_at f store) (inspected_by f p)),
+      )
+
+  fetched_few : (level : Level) (p q : ℕ) → length (fetched_of f owners store level p q) ≤ 16777216
+  fetched_few level p q =
+      omega (
+        arith,
+        filter_le (λ u. owner_met f owners u == q) (indexes_of f store level p),
+        indexes_few level p,
         uses_few (inspected_by f p) (inspected_few p),
       )
 
@@ -314,11 +320,11 @@ loop_measures s past site turn l p q small work = by l
           );
           most = λ (e : false ≡ true). cc;
         }
-    by phase.IndexAsk =
-        let rows = rows_are 2 16777216 (index_ask_of f owners) (λ u. refl) (fetched_of f owners store p q)
-        (fetched_few f owners store work p q) in
+    by (phase.IndexAsk level) =
+        let rows = rows_are 2 16777216 (index_ask_of f owners) (λ u. refl) (fetched_of f owners store level p q)
+        (fetched_few f owners store work level p q) in
         record { groups = rows.groups; most = λ e. omega (arith, rows.within) }
-    by phase.IndexValues = record { groups = each_one _; most = λ (e : false ≡ true). cc }
+    by (phase.IndexValues level) = record { groups = each_one _; most = λ (e : false ≡ true). cc }
     by phase.Vote = let v = vote_groups (vote_of f store p) in record { groups = v.0; most = λ e. v.1 }
     by phase.Iterations =
         let k : ℕ = 1 + length (filter (λ (r : Reference). is_index r.role) f.site.references) in

@@ -1,19 +1,21 @@
 -- A step that inspects has a vote, behind the stages that lead to it.
 use Rattle.std.specs.Prelude.{◌≡◌, refl, Bool, true, false, not, ◌&&◌, if◌then◌else◌, List, [], ◌∷◌, ◌++◌, ℕ, map}
-use Rattle.std.specs.List.{AllByRecursion, list_any}
-use Rattle.std.proofs.Common.{sym, subst}
+use Rattle.std.specs.List.{AllByRecursion}
+use Rattle.std.proofs.Common.{ap, sym, subst}
+use Rattle.fd_program.specs.ListLaws.{all_append, all_map}
 use Rattle.fd_program.specs.Layouts.{facts_at}
 use Rattle.fd_program.specs.Past.{inspects_at, inspects_step}
 use Rattle.fd_program.specs.Trace.{is_empty_turn}
-use Rattle.fd_words.specs.Roles.{is_index}
 use Rattle.fd_program.specs.declared.checked.Checked.{Checked}
 use Rattle.fd_program.specs.declared.loop_facts.HomeRule.{HomeRule}
 use Rattle.fd_program.specs.declared.loop_facts.LoopFacts.{LoopFacts}
-use Rattle.fd_program.specs.declared.reference.Reference.{Reference}
 use Rattle.fd_program.specs.declared.trace.Step.{Step}
 use Rattle.fd_program.specs.declared.trace.Step.TheVariants.{Distribute, Print, Forall}
-use Rattle.plan_loop.specs.LoopLetters.{asks_places, phases_to_vote, phases_from_vote, executor_phases}
+use Rattle.plan_loop.specs.LoopLetters.{asks_places, asking_phases, has_level, fetching_phases, round_phases, phases_to_vote}
+use Rattle.plan_loop.specs.LoopLetters.{phases_from_vote, executor_phases}
 use Rattle.plan_loop.specs.declared.loop_phase.Asking.TheVariants.{Indexes}
+use Rattle.plan_loop.specs.declared.loop_phase.Level.{Level}
+use Rattle.plan_loop.specs.declared.loop_phase.Level.TheVariants.{First, Second}
 use Rattle.plan_loop.specs.declared.loop_phase.LoopPhase.{LoopPhase}
 use Rattle.plan_loop.specs.declared.loop_phase.LoopPhase.TheVariants as phase
 use Rattle.plan_run.specs.Phases.{is_vote, loop_stages, stages_of}
@@ -34,42 +36,46 @@ pub record HasVote (through stages : List Stage) : Type 0 where
   pub none : AllByRecursion (λ u. is_vote u ≡ false) first
   pub through_it : first ++ stage.InLoop phase.Vote ∷ [] ≡ through
 
-abbrev before_vote : Bool → Bool → List LoopPhase
-before_vote a b =
-    (if a then phase.DerefAsk Indexes ∷ phase.DerefAnswer Indexes ∷ [] else []) ++ (if b then phase.IndexAsk ∷ phase.IndexValues ∷ []
-    else []) ++ phase.Vote ∷ []
+-- stages with a vote, behind some without one
+vote_behind : (before behind last : List LoopPhase) → map stage.InLoop (((before ++ phase.Vote ∷ []) ++ behind) ++ last)
+    ≡ map stage.InLoop before ++ stage.InLoop phase.Vote ∷ map stage.InLoop (behind ++ last)
+vote_behind [] behind last = refl
+vote_behind (l ∷ ls) behind last = ap (λ rest. stage.InLoop l ∷ rest) (vote_behind ls behind last)
+
+vote_last : (before : List LoopPhase) → map stage.InLoop before ++ stage.InLoop phase.Vote ∷ [] ≡ map stage.InLoop
+    (before ++ phase.Vote ∷ [])
+vote_last [] = refl
+vote_last (l ∷ ls) = ap (λ rest. stage.InLoop l ∷ rest) (vote_last ls)
+
+abbrev IsNoVote : LoopPhase → Type 0
+IsNoVote l = is_vote (stage.InLoop l) ≡ false
+
+-- a round of fetching has none
+round_votes : (f : LoopFacts) (level : Level) → AllByRecursion IsNoVote (round_phases f level)
+round_votes f level =
+    all_append IsNoVote (asking_phases f (Indexes level)) (fetching_phases f level) (asks (asks_places f (Indexes level)))
+    (fetches (has_level f level))
+  where
+    asks : (b : Bool)
+        → AllByRecursion IsNoVote (if b then phase.DerefAsk (Indexes level) ∷ phase.DerefAnswer (Indexes level) ∷ [] else [])
+    asks true = (refl, (refl, tt))
+    asks false = tt
+
+    fetches : (b : Bool) → AllByRecursion IsNoVote (if b then phase.IndexAsk level ∷ phase.IndexValues level ∷ [] else [])
+    fetches true = (refl, (refl, tt))
+    fetches false = tt
 
 inspection_votes : (f : LoopFacts) → HasVote (map stage.InLoop (phases_to_vote f)) (loop_stages f true)
-inspection_votes f = by (asks_places f Indexes) (list_any (λ (r : Reference). is_index r.role) f.site.references)
-  where
-    behind_vote : List Stage
-    behind_vote = map stage.InLoop (phases_from_vote f ++ executor_phases)
-
-    by : (a b : Bool) → HasVote (map stage.InLoop (before_vote a b))
-        (map stage.InLoop ((before_vote a b ++ phases_from_vote f) ++ executor_phases))
-    by true true = record {
-      first = stage.InLoop (phase.DerefAsk Indexes) ∷ stage.InLoop (phase.DerefAnswer Indexes) ∷ stage.InLoop phase.IndexAsk
-          ∷ stage.InLoop phase.IndexValues ∷ [];
-      behind = behind_vote;
-      all = refl;
-      none = (refl, (refl, (refl, (refl, tt))));
-      through_it = refl;
+inspection_votes f =
+    let rounds : List LoopPhase = round_phases f First ++ round_phases f Second in
+    record {
+      first = map stage.InLoop rounds;
+      behind = map stage.InLoop (phases_from_vote f ++ executor_phases);
+      all = vote_behind rounds (phases_from_vote f) executor_phases;
+      none = all_map (λ u. is_vote u ≡ false) stage.InLoop rounds
+          (all_append IsNoVote (round_phases f First) (round_phases f Second) (round_votes f First) (round_votes f Second));
+      through_it = vote_last rounds;
     }
-    by true false = record {
-      first = stage.InLoop (phase.DerefAsk Indexes) ∷ stage.InLoop (phase.DerefAnswer Indexes) ∷ [];
-      behind = behind_vote;
-      all = refl;
-      none = (refl, (refl, tt));
-      through_it = refl;
-    }
-    by false true = record {
-      first = stage.InLoop phase.IndexAsk ∷ stage.InLoop phase.IndexValues ∷ [];
-      behind = behind_vote;
-      all = refl;
-      none = (refl, (refl, tt));
-      through_it = refl;
-    }
-    by false false = record { first = []; behind = behind_vote; all = refl; none = tt; through_it = refl }
 
 some_range : (a b : Bool) → (not a && b) ≡ true → a ≡ false
 some_range false b e = refl

@@ -23,6 +23,7 @@ use Rattle.fd_program.specs.declared.trace.Step.TheVariants.{Distribute, Print, 
 use Rattle.plan_loop.specs.LoopLetters.{asked_of, fetched_of, index_ask_of, place_answer_of, place_ask_of, row_for, value_before}
 use Rattle.plan_loop.specs.LoopLetters.{value_given}
 use Rattle.plan_loop.specs.declared.loop_phase.Asking.{Asking}
+use Rattle.plan_loop.specs.declared.loop_phase.Level.{Level}
 use Rattle.plan_loop.specs.declared.loop_phase.LoopPhase.TheVariants as phase
 use Rattle.plan_run.specs.Held.{owed_at}
 use Rattle.plan_run.specs.MeasureLaws.{flat_rows}
@@ -87,9 +88,9 @@ PlaceAnswersAreKnown =
 -- a value for each two numbers that ask for it
 abbrev pub IndexValuesAreKnown : Type 0
 IndexValuesAreKnown =
-    (s : Scene) (past : List Step) (site : ℕ) (turn : LoopTurn) (p q : ℕ)
-    → 2 * length (numbers_at s past (Forall site turn) (stage.InLoop phase.IndexValues) q p)
-    ≡ length (numbers_at s past (Forall site turn) (stage.InLoop phase.IndexAsk) p q)
+    (s : Scene) (past : List Step) (site : ℕ) (turn : LoopTurn) (level : Level) (p q : ℕ)
+    → 2 * length (numbers_at s past (Forall site turn) (stage.InLoop (phase.IndexValues level)) q p)
+    ≡ length (numbers_at s past (Forall site turn) (stage.InLoop (phase.IndexAsk level)) p q)
 
 -- three numbers for each element that is needed or given
 abbrev pub GathersAreKnown : Type 0
@@ -268,9 +269,9 @@ place_answers_are_known s past site turn asking p q =
     (asked_of f (owners_at s past) (store_at s past) asking p q)
 
 pub index_values_are_known : IndexValuesAreKnown
-index_values_are_known s past site turn p q =
+index_values_are_known s past site turn level p q =
     let f = loop_at s past site turn in
-    let uses = fetched_of f (owners_at s past) (store_at s past) p q in
+    let uses = fetched_of f (owners_at s past) (store_at s past) level p q in
     omega (
       arith,
       length-map uses (read_of (store_at s past)),

@@ -18,8 +18,8 @@ use Rattle.fd_program.specs.declared.loop_facts.LoopFacts.{LoopFacts}
 use Rattle.fd_program.specs.declared.refused.Refused.{Refused}
 use Rattle.fd_program.specs.declared.trace.Step.{Step}
 use Rattle.fd_program.specs.declared.trace.Step.TheVariants.{Distribute, Print, Forall}
-use Rattle.plan_loop.specs.LoopLetters.{asking_phases, fetching_phases, phases_to_vote, phases_from_vote, executor_phases}
-use Rattle.plan_loop.specs.declared.loop_phase.Asking.TheVariants.{Indexes}
+use Rattle.plan_loop.specs.LoopLetters.{round_phases, phases_to_vote, phases_from_vote, executor_phases}
+use Rattle.plan_loop.specs.declared.loop_phase.Level.TheVariants.{First, Second}
 use Rattle.plan_loop.specs.declared.loop_phase.LoopPhase.{LoopPhase}
 use Rattle.plan_loop.specs.declared.loop_phase.LoopPhase.TheVariants as phase
 use Rattle.plan_run.specs.Held.{Held, AtEnd, AtLeft, AtPhase}
@@ -270,7 +270,7 @@ any_right (x ∷ xs) ys e = by (is_vote (stage.InLoop x)) (any_right xs ys e)
 any_inspection_votes : (f : LoopFacts) → list_any is_vote (loop_stages f true) ≡ true
 any_inspection_votes f =
     any_left (phases_to_vote f ++ phases_from_vote f) executor_phases
-    (any_left (phases_to_vote f) (phases_from_vote f) (any_right (asking_phases f Indexes ++ fetching_phases f) (phase.Vote ∷ []) refl))
+    (any_left (phases_to_vote f) (phases_from_vote f) (any_right (round_phases f First ++ round_phases f Second) (phase.Vote ∷ []) refl))
 
 -- a step that inspects has a vote
 any_inspecting_votes : (c : Checked) (nodes : ℕ) (rule : HomeRule) (past : List Step) (step : Step) → inspects_step c past step ≡ true

@@ -29,7 +29,7 @@ fn is_open(stage: Stage) -> bool
         Stage::PageCounts | Stage::MovingAnswer => false,
         Stage::InLoop(phase) => match phase {
             LoopPhase::DerefAnswer(_)
-            | LoopPhase::IndexValues
+            | LoopPhase::IndexValues(_)
             | LoopPhase::Gather
             | LoopPhase::Scatter => false,
             _ => true,
