@@ -12,15 +12,19 @@ use Rattle.fd_program.specs.declared.reference.Reference.{Reference}
 use Rattle.inspect_places.specs.Asks.{IsAsked}
 use Rattle.inspect_places.specs.declared.asked.Asked.{Asked}
 use Rattle.chaos_hash.specs.Stamps.{Stamps}
-use Rattle.plan_loop.specs.LoopLetters.{asks_places}
+use Rattle.plan_loop.specs.LoopLetters.{asks_places, has_level}
 use Rattle.plan_loop.specs.declared.loop_phase.Asking.TheVariants.{Indexes}
+use Rattle.plan_loop.specs.declared.loop_phase.Level.TheVariants.{First, Second}
+use Rattle.plan_loop.specs.declared.loop_phase.LoopPhase.TheVariants.{Vote}
 use Rattle.inspect_uses.specs.Accepted.{AreOwners, IsAccepted}
 use Rattle.inspect_uses.specs.Reached.{place_met}
 use Rattle.inspect_uses.specs.ReachedLaws.{values_at}
-use Rattle.chaos_inspect.specs.Inspecting.{InHand, first_phase, first_stage, has_indexes, phase_first, phase_of}
-use Rattle.chaos_inspect.specs.Walking.{is_asked, spots_told, uses_through, uses_without}
+use Rattle.chaos_inspect.specs.Inspecting.{InHand, first_phase, first_stage, phase_into, phase_of, second_phase}
+use Rattle.chaos_inspect.specs.Walking.{is_asked, known_through, spots_told}
 use Rattle.chaos_inspect.specs.declared.inspection.Inspection.{Inspection}
 use Rattle.chaos_inspect.specs.declared.stage.Stage.{Stage}
+use Rattle.chaos_inspect.specs.PhaseLaws.{indexes_from}
+use Rattle.chaos_inspect.proofs.IndexLaws.{no_indexes, second_off}
 use Rattle.chaos_inspect.proofs.Rounds.{none_asked}
 use Rattle.chaos_inspect.proofs.Standing.{indexes_wanted, spots_right}
 
@@ -48,43 +52,59 @@ no_values f store none (i ∷ is) = ap (λ l. l ++ flat_map (values_at f store) 
 
 -- what is asked for at these iterations
 abbrev pub Begun : LoopFacts → Asked → List ℤ → Type 0
-Begun f asked is = IsAsked f (filter (is_asked f Indexes) (uses_through f is [])) asked
+Begun f asked is = IsAsked f (filter (is_asked f (Indexes First)) (known_through f is [])) asked
 
 -- what is in hand then
 pub record Begins (x : Inspection) (seeks has : Bool) : Type 0 where
   pub accepted : IsAccepted x.facts
   pub mine : x.mine ≡ inspected_by x.facts x.me
-  pub asks : asks_places x.facts Indexes ≡ seeks
-  pub indexes : has_indexes x.facts ≡ has
+  pub asks : asks_places x.facts (Indexes First) ≡ seeks
+  pub indexes : has_level x.facts First ≡ has
   pub values : x.values ≡ []
   pub asked : seeks ≡ true → Begun x.facts x.asked x.mine
-  pub spots : seeks ≡ false → x.spots ≡ spots_told x.facts Indexes [] (uses_without x.facts x.mine)
+  pub spots : seeks ≡ false → x.spots ≡ spots_told x.facts (Indexes First) [] (known_through x.facts x.mine [])
 
 pub hand_first : (x : Inspection) (owners : List (List ℕ)) (store : List (List ℤ)) (tables : List Stamps) (seeks has : Bool)
     → AreOwners x.facts owners → Begins x seeks has
     → InHand x owners store tables (first_stage seeks has)
 hand_first x owners store tables true has owned h = (
   subst (λ us. IsAsked x.facts us x.asked)
-      (ap (λ is. filter (is_asked x.facts Indexes) (uses_through x.facts is [])) h.mine
-      ∙ indexes_wanted x.facts owners store x.me h.accepted) (h.asked refl),
+      (ap (λ is. filter (is_asked x.facts (Indexes First)) (known_through x.facts is [])) h.mine
+      ∙ indexes_wanted x.facts owners store x.me First [] h.accepted tt) (h.asked refl),
   tt,
 )
-hand_first x owners store tables false true owned h =
-    h.spots refl
-    ∙ ap (λ is. spots_told x.facts Indexes [] (uses_without x.facts is)) h.mine
-    ∙ ap (λ us. spots_told x.facts Indexes (map (place_met x.facts owners) us) (uses_without x.facts (inspected_by x.facts x.me)))
-    (sym (none_asked x.facts Indexes store (inspected_by x.facts x.me) h.asks))
-    ∙ spots_right x.facts owners store x.me h.accepted owned
-hand_first x owners store tables false false owned h = h.values ∙ sym (no_values x.facts store h.indexes (inspected_by x.facts x.me))
+hand_first x owners store tables false true owned h = (
+  h.spots refl
+      ∙ ap (λ is. spots_told x.facts (Indexes First) [] (known_through x.facts is [])) h.mine
+      ∙ ap (λ us. spots_told x.facts (Indexes First) (map (place_met x.facts owners) us)
+      (known_through x.facts (inspected_by x.facts x.me) []))
+      (sym (none_asked x.facts (Indexes First) store (inspected_by x.facts x.me) h.asks))
+      ∙ spots_right x.facts owners store x.me First [] h.accepted owned tt,
+  tt,
+)
+hand_first x owners store tables false false owned h =
+    h.values ∙ sym (no_values x.facts store (no_indexes x.facts h.accepted.site h.indexes) (inspected_by x.facts x.me))
 
-pub phase_begun : (f : LoopFacts) (stage : Stage) (seeks has : Bool) → stage ≡ first_stage seeks has → seeks ≡ asks_places f Indexes
-    → has ≡ has_indexes f
-    → phase_of stage ≡ Some (first_phase f)
-phase_begun f stage seeks has begun asks indexes =
-    ap phase_of begun ∙ by seeks has ∙ ap (λ b. Some (phase_first b has)) asks ∙ ap (λ b. Some (phase_first (asks_places f Indexes) b))
-    indexes
+-- where there is nothing to fetch at the first level, there is nothing at the second
+none_second : (f : LoopFacts) → IsAccepted f → has_level f First ≡ false → second_phase f ≡ Vote
+none_second f accepted none =
+    let off = second_off f Second (no_indexes f accepted.site none) in
+    by (asks_places f (Indexes Second)) (has_level f Second) (indexes_from f Second 1 f.site.references) off
   where
-    by : (a b : Bool) → phase_of (first_stage a b) ≡ Some (phase_first a b)
-    by true b = refl
-    by false true = refl
-    by false false = refl
+    by : (a h : Bool) → (a ≡ true → h ≡ true) → h ≡ false → phase_into a h Second Vote ≡ Vote
+    by true h e off = let on : h ≡ true = e refl in cc
+    by false true e off = cc
+    by false false e off = refl
+
+pub phase_begun : (f : LoopFacts) (stage : Stage) (seeks has : Bool) → IsAccepted f → stage ≡ first_stage seeks has
+    → seeks ≡ asks_places f (Indexes First) → has ≡ has_level f First
+    → phase_of stage ≡ Some (first_phase f)
+phase_begun f stage seeks has accepted begun asks indexes =
+    ap phase_of begun ∙ by seeks has (λ none. none_second f accepted (sym indexes ∙ none))
+    ∙ ap (λ b. Some (phase_into b has First (second_phase f))) asks
+    ∙ ap (λ b. Some (phase_into (asks_places f (Indexes First)) b First (second_phase f))) indexes
+  where
+    by : (a b : Bool) → (b ≡ false → second_phase f ≡ Vote) → phase_of (first_stage a b) ≡ Some (phase_into a b First (second_phase f))
+    by true b none = refl
+    by false true none = refl
+    by false false none = ap Some (sym (none refl))

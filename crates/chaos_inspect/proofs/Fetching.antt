@@ -26,18 +26,18 @@ use Rattle.fd_program.specs.Uses.{is_met, read_of}
 use Rattle.fd_words.specs.Roles.{is_index}
 use Rattle.fd_program.specs.declared.loop_facts.LoopFacts.{LoopFacts}
 use Rattle.fd_program.specs.declared.loop_use.Use.{Use}
-use Rattle.plan_loop.specs.LoopLetters.{index_ask_of, indexes_of, numbers_in_loop, owed_in, sent_in}
+use Rattle.plan_loop.specs.LoopLetters.{index_ask_of, index_uses_of, indexes_of, is_at, numbers_in_loop, owed_in, sent_in}
 use Rattle.fd_program.specs.Met.{decomposition_met, layout_for, local_met, stands_met}
+use Rattle.plan_loop.specs.declared.loop_phase.Level.{Level}
 use Rattle.plan_loop.specs.declared.loop_phase.LoopPhase.TheVariants.{IndexAsk, IndexValues}
 use Rattle.inspect_uses.specs.Accepted.{AreOwners, IsAccepted}
 use Rattle.inspect_uses.specs.PlaceLaws.{each_is_owned, local_small}
 use Rattle.inspect_uses.specs.Standing.{standing, natural_bounds}
 use Rattle.chaos_inspect.specs.Dealing.{numbers_drawn}
 use Rattle.chaos_inspect.specs.Walking.{piece_value, piece_values, spot_ask}
-use Rattle.chaos_inspect.specs.Met.{spot_met, values_of}
+use Rattle.chaos_inspect.specs.Met.{spot_met}
 use Rattle.chaos_inspect.specs.declared.spot.Spot.{Spot}
 use Rattle.chaos_inspect.proofs.Deals.{drawn_right, AreLeft}
-use Rattle.chaos_inspect.proofs.Walks.{given_all}
 
 -- ---- lists
 
@@ -68,12 +68,14 @@ both false b e = cc
 
 -- ---- places of met references
 
-pub indexes_met : (f : LoopFacts) (store : List (List ℤ)) (p : ℕ) → AllByRecursion (λ u. is_met f.arrays u ≡ true) (indexes_of f store p)
-indexes_met f store p =
+pub indexes_met : (f : LoopFacts) (store : List (List ℤ)) (level : Level) (p : ℕ)
+    → AllByRecursion (λ u. is_met f.arrays u ≡ true) (indexes_of f store level p)
+indexes_met f store level p =
     let all = flat_map (uses_at f store) (inspected_by f p) in
-    all_weaker (λ u. ((is_index u.role && is_met f.arrays u) ≡ true) × Unit {0}) (λ u. is_met f.arrays u ≡ true)
-    (λ u h. (both (is_index u.role) (is_met f.arrays u) h.0).1)
-    (indexes_of f store p) (all_filter (λ u. Unit {0}) (λ u. is_index u.role && is_met f.arrays u) all (all_trivial all))
+    all_weaker (λ u. (is_at level u.plain ≡ true) × (((is_index u.role && is_met f.arrays u) ≡ true) × Unit {0}))
+    (λ u. is_met f.arrays u ≡ true) (λ u h. (both (is_index u.role) (is_met f.arrays u) h.1.0).1) (indexes_of f store level p)
+    (all_filter (λ u. ((is_index u.role && is_met f.arrays u) ≡ true) × Unit {0}) (λ u. is_at level u.plain) (index_uses_of f store p)
+    (all_filter (λ u. Unit {0}) (λ u. is_index u.role && is_met f.arrays u) all (all_trivial all)))
 
 -- ---- asks
 
@@ -97,13 +99,15 @@ asks_along f owners q (u ∷ us) small = by (owner_met f owners u == q) (asks_al
         ∙ ap (λ l. pos u.array ∷ pos (local_met f owners u) ∷ l) e
     by false e = e
 
-pub asks_right : (f : LoopFacts) (owners : List (List ℕ)) (store : List (List ℤ)) (p : ℕ) → IsAccepted f → AreOwners f owners
-    → deals (λ (s : Spot). s.owner) spot_ask f.nodes (map (spot_met f owners) (indexes_of f store p)) ≡ sent_in f owners store IndexAsk p
-asks_right f owners store p accepted owned =
-    map-range-same _ _ 0 f.nodes (λ q. asks_along f owners q (indexes_of f store p)
+pub asks_right : (f : LoopFacts) (owners : List (List ℕ)) (store : List (List ℤ)) (level : Level) (p : ℕ) → IsAccepted f
+    → AreOwners f owners
+    → deals (λ (s : Spot). s.owner) spot_ask f.nodes (map (spot_met f owners) (indexes_of f store level p)) ≡ sent_in f owners store
+    (IndexAsk level) p
+asks_right f owners store level p accepted owned =
+    map-range-same _ _ 0 f.nodes (λ q. asks_along f owners q (indexes_of f store level p)
     (all_weaker (λ u. is_met f.arrays u ≡ true) (λ u. local_met f owners u < 9223372036854775808)
     (λ u met. local_small f owners u accepted owned met)
-    (indexes_of f store p) (indexes_met f store p)))
+    (indexes_of f store level p) (indexes_met f store level p)))
 
 -- ---- answers
 
@@ -163,12 +167,14 @@ answers_along f owners store p accepted owned (u ∷ us) met =
         ∙ ap (λ l. read_of store u ∷ l) rest
     by false e rest = rest
 
-pub answers_right : (f : LoopFacts) (owners : List (List ℕ)) (store : List (List ℤ)) (p : ℕ) → IsAccepted f → AreOwners f owners
-    → map (piece_values (parts_of f.arrays owners store p)) (owed_in f owners store IndexAsk p) ≡ sent_in f owners store IndexValues p
-answers_right f owners store p accepted owned =
-    map_map_same (piece_values (parts_of f.arrays owners store p)) (λ q. numbers_in_loop f owners store IndexAsk q p)
-    (λ q. numbers_in_loop f owners store IndexValues p q)
-    (λ q. answers_along f owners store p accepted owned (indexes_of f store q) (indexes_met f store q)) (below f.nodes)
+pub answers_right : (f : LoopFacts) (owners : List (List ℕ)) (store : List (List ℤ)) (level : Level) (p : ℕ) → IsAccepted f
+    → AreOwners f owners
+    → map (piece_values (parts_of f.arrays owners store p)) (owed_in f owners store (IndexAsk level) p) ≡ sent_in f owners store
+    (IndexValues level) p
+answers_right f owners store level p accepted owned =
+    map_map_same (piece_values (parts_of f.arrays owners store p)) (λ q. numbers_in_loop f owners store (IndexAsk level) q p)
+    (λ q. numbers_in_loop f owners store (IndexValues level) p q)
+    (λ q. answers_along f owners store p accepted owned (indexes_of f store level q) (indexes_met f store level q)) (below f.nodes)
 
 -- ---- values
 
@@ -179,21 +185,22 @@ none_kept f owners k (u ∷ us) h =
     ap (λ b. cond b (u ∷ filter (λ v. owner_met f owners v == k) us) (filter (λ v. owner_met f owners v == k) us)) (other_numbers _ k h.0)
     ∙ none_kept f owners k us h.1
 
-pub values_right : (f : LoopFacts) (owners : List (List ℕ)) (store : List (List ℤ)) (p : ℕ) → IsAccepted f → AreOwners f owners
-    → numbers_drawn (owed_in f owners store IndexValues p) (replicate 16 0)
-    (map (λ (s : Spot). s.owner) (map (spot_met f owners) (indexes_of f store p))) ≡ values_of f store p
-values_right f owners store p accepted owned =
-    let us = indexes_of f store p in
-    let lists = owed_in f owners store IndexValues p in
+pub values_right : (f : LoopFacts) (owners : List (List ℕ)) (store : List (List ℤ)) (level : Level) (p : ℕ) → IsAccepted f
+    → AreOwners f owners
+    → numbers_drawn (owed_in f owners store (IndexValues level) p) (replicate 16 0)
+    (map (λ (s : Spot). s.owner) (map (spot_met f owners) (indexes_of f store level p))) ≡ map (read_of store) (indexes_of f store level p)
+values_right f owners store level p accepted owned =
+    let us = indexes_of f store level p in
+    let lists = owed_in f owners store (IndexValues level) p in
     let low : AllByRecursion (λ u. owner_met f owners u < f.nodes) us =
     all_weaker (λ u. is_met f.arrays u ≡ true) (λ u. owner_met f owners u < f.nodes)
-    (λ u met. each_is_owned f owners u accepted owned met) us (indexes_met f store p) in
+    (λ u met. each_is_owned f owners u accepted owned met) us (indexes_met f store level p) in
     let left : AreLeft (owner_met f owners) (read_of store) lists (replicate 16 0) us = λ k less.
     ap (λ c. drop c (list_at lists k)) (get_or-replicate 16 k 0 0 less)
     ∙ elim (cases_lt k f.nodes) [
-      | inl within ↦ list_family (λ q. numbers_in_loop f owners store IndexValues q p) f.nodes k within
+      | inl within ↦ list_family (λ q. numbers_in_loop f owners store (IndexValues level) q p) f.nodes k within
       | inr past ↦
-          list_past (λ q. numbers_in_loop f owners store IndexValues q p) f.nodes k past
+          list_past (λ q. numbers_in_loop f owners store (IndexValues level) q p) f.nodes k past
           ∙ sym (ap (map (read_of store)) (none_kept f owners k us
           (all_weaker (λ u. owner_met f owners u < f.nodes) (λ u. owner_met f owners u < k) (λ u h. omega (arith, h, past)) us low)))
     ] in
@@ -201,4 +208,3 @@ values_right f owners store p accepted owned =
     ∙ drawn_right (owner_met f owners) (read_of store) lists (replicate 16 0) us
     (all_weaker (λ u. owner_met f owners u < f.nodes) (λ u. owner_met f owners u < 16) (λ u h. omega (arith, h, accepted.few_nodes)) us
     low) left
-    ∙ given_all f store (inspected_by f p)

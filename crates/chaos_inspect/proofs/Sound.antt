@@ -17,7 +17,7 @@ use Rattle.fd_program.specs.declared.array.ArrayFacts.{ArrayFacts}
 use Rattle.fd_program.specs.declared.loop_facts.LoopFacts.{LoopFacts}
 use Rattle.fd_program.specs.declared.loop_use.Use.{Use}
 use Rattle.fd_program.specs.declared.reference.CheckedSubscript.{CheckedSubscript}
-use Rattle.fd_program.specs.declared.reference.CheckedSubscript.TheVariants.{Plain, Through, Scalar}
+use Rattle.fd_program.specs.declared.reference.CheckedSubscript.TheVariants.{Plain, Through, Twice, Scalar}
 use Rattle.fd_program.specs.declared.reference.Reference.{Reference}
 
 abbrev pub AllMet : List ArrayFacts → List Use → Type 0
@@ -48,6 +48,9 @@ module _ (arrays : List ArrayFacts) (adds : List ℤ) (store : List (List ℤ)) 
   defined_by before_it before (Plain terms) add given served = refl
   defined_by None before (Through array at inner terms) add given served = absurd served
   defined_by (Some r) before (Through array at inner terms) add given served = given_some before add _ (given served.role)
+  defined_by None before (Twice outer at inner inner_at first second terms) add given served = absurd served
+  defined_by (Some r) before (Twice outer at inner inner_at first second terms) add given served =
+      given_some before add _ (given served.role)
   defined_by before_it before (Scalar scalar) add given served = refl
 
   met_from : (before_it : Option Reference) (place : ℕ) (before : Option ℤ) (references : List Reference) → HasGiven before_it before

@@ -1,6 +1,6 @@
 -- Steps of the loops over iterations, over plain lists.
 use Rattle.std.proofs.Common.{◌≡◌, ℕ, ◌+◌, ◌<◌, ◌≤◌, ℤ, pos, List, [], ◌∷◌, ◌++◌, length, filter, drop, take, get_or, refl, ap, sym, ◌∙◌}
-use Rattle.std.proofs.Common.{Some, None, Option, arith, append_assoc, append-nil}
+use Rattle.std.proofs.Common.{Bool, Some, None, Option, arith, append_assoc, append-nil}
 use Rattle.std.specs.Prelude.{count_by, filter_map}
 use Rattle.std.specs.Option.{option_or}
 use Rattle.std.proofs.lemmas.List.{at_drop_more}
@@ -10,13 +10,13 @@ use Rattle.fd_program.specs.Loops.{first_of, offence_at}
 use Rattle.fd_program.specs.Uses.{gives_index}
 use Rattle.fd_program.specs.declared.loop_facts.LoopFacts.{LoopFacts}
 use Rattle.fd_program.specs.declared.loop_use.Use.{Use}
-use Rattle.inspect_uses.specs.Reached.{uses_with}
+use Rattle.inspect_uses.specs.Reached.{gives_first, known_with, uses_with}
 use Rattle.list_laws.specs.Rows.{appended_at, dealt_onto}
 use Rattle.fd_words.specs.declared.place.Place.{Place}
 use Rattle.plan_loop.specs.declared.loop_phase.Asking.{Asking}
-use Rattle.plan_loop.specs.declared.loop_phase.Asking.TheVariants.{Homes, Indexes}
-use Rattle.chaos_inspect.specs.Walking.{Homed, home_told, homed_through, is_asked, piece_value, piece_values, spots_told, uses_through}
-use Rattle.chaos_inspect.specs.Walking.{uses_without}
+use Rattle.plan_loop.specs.declared.loop_phase.Asking.TheVariants.{Homes}
+use Rattle.chaos_inspect.specs.Walking.{Homed, home_told, homed_through, is_asked, known_through, piece_value, piece_values, spots_told}
+use Rattle.chaos_inspect.specs.Walking.{uses_through}
 use Rattle.chaos_inspect.proofs.Turns.{told_append}
 use Rattle.chaos_inspect.specs.declared.spot.Spot.{Spot}
 
@@ -79,20 +79,46 @@ wanted_step f asking is rest more k i us list further all less at used kept behi
     ∙ ap (filter (is_asked f asking)) (walked f is rest more k i us less at used behind))
     ∙ before
 
--- the spots of one iteration more
-pub spots_step : (f : LoopFacts) (is : List ℤ) (rest more : List Place) (k : ℕ) (i : ℤ) (us : List Use) (spots further all : List Spot)
+-- one iteration of a walk where the first level's values alone are known
+known_walked : (f : LoopFacts) (is rest more : List ℤ) (k : ℕ) (i : ℤ) (us : List Use) → k < length is → get_or is k (pos 0) ≡ i
+    → us ≡ known_with f i rest
+    → more ≡ drop (count_by (gives_first f.arrays) us) rest
+    → us ++ known_through f (drop (k + 1) is) more ≡ known_through f (drop k is) rest
+known_walked f is rest more k i us less at used behind =
+    let whole : List Use → List Use = λ vs. vs ++ known_through f (drop (k + 1) is) (drop (count_by (gives_first f.arrays) vs) rest) in
+    ap (λ vs. us ++ known_through f (drop (k + 1) is) vs) behind
+    ∙ ap whole (used ∙ ap (λ j. known_with f j rest) (sym at))
+    ∙ sym (at_drop_more (λ js. known_through f js rest) is k (pos 0) less)
+
+-- those of its references that are kept
+pub kept_step : (f : LoopFacts) (keeps : Use → Bool) (is rest more : List ℤ) (k : ℕ) (i : ℤ) (us list further all : List Use)
     → k < length is → get_or is k (pos 0) ≡ i
-    → us ≡ uses_with f i [] → further ≡ spots ++ spots_told f Indexes rest us → more ≡ drop (count_by (is_asked f Indexes) us) rest
-    → spots ++ spots_told f Indexes rest (uses_without f (drop k is)) ≡ all
-    → further ++ spots_told f Indexes more (uses_without f (drop (k + 1) is)) ≡ all
-spots_step f is rest more k i us spots further all less at used noted behind before =
-    let later = uses_without f (drop (k + 1) is) in
-    ap (λ l. l ++ spots_told f Indexes more later) noted
-    ∙ append_assoc spots (spots_told f Indexes rest us) (spots_told f Indexes more later)
-    ∙ ap (λ l. spots ++ l) (ap (λ m. spots_told f Indexes rest us ++ spots_told f Indexes m later) behind
-    ∙ sym (told_append f Indexes rest us later)
-    ∙ ap (λ vs. spots_told f Indexes rest (vs ++ later)) (used ∙ ap (λ j. uses_with f j []) (sym at))
-    ∙ sym (at_drop_more (λ js. spots_told f Indexes rest (uses_without f js)) is k (pos 0) less))
+    → us ≡ known_with f i rest → further ≡ list ++ filter keeps us → more ≡ drop (count_by (gives_first f.arrays) us) rest
+    → list ++ filter keeps (known_through f (drop k is) rest) ≡ all
+    → further ++ filter keeps (known_through f (drop (k + 1) is) more) ≡ all
+kept_step f keeps is rest more k i us list further all less at used kept behind before =
+    let later = known_through f (drop (k + 1) is) more in
+    ap (λ l. l ++ filter keeps later) kept
+    ∙ append_assoc list (filter keeps us) (filter keeps later)
+    ∙ ap (λ l. list ++ l) (sym (filter-append keeps us later)
+    ∙ ap (filter keeps) (known_walked f is rest more k i us less at used behind))
+    ∙ before
+
+-- the spots of one iteration more
+pub spots_step : (f : LoopFacts) (asking : Asking) (is rest more : List ℤ) (told behind_told : List Place) (k : ℕ) (i : ℤ) (us : List Use)
+    (spots further all : List Spot)
+    → k < length is → get_or is k (pos 0) ≡ i
+    → us ≡ known_with f i rest → further ≡ spots ++ spots_told f asking told us
+    → behind_told ≡ drop (count_by (is_asked f asking) us) told → more ≡ drop (count_by (gives_first f.arrays) us) rest
+    → spots ++ spots_told f asking told (known_through f (drop k is) rest) ≡ all
+    → further ++ spots_told f asking behind_told (known_through f (drop (k + 1) is) more) ≡ all
+spots_step f asking is rest more told behind_told k i us spots further all less at used noted places behind before =
+    let later = known_through f (drop (k + 1) is) more in
+    ap (λ l. l ++ spots_told f asking behind_told later) noted
+    ∙ append_assoc spots (spots_told f asking told us) (spots_told f asking behind_told later)
+    ∙ ap (λ l. spots ++ l) (ap (λ m. spots_told f asking told us ++ spots_told f asking m later) places
+    ∙ sym (told_append f asking told us later)
+    ∙ ap (spots_told f asking told) (known_walked f is rest more k i us less at used behind))
     ∙ before
 
 -- the row of one iteration more

@@ -94,7 +94,7 @@ module _ (f : LoopFacts) (owners : List (List ℕ)) (asking : Asking) (accepted 
       → spots_told f asking (map (place_met f owners) (filter (is_asked f asking) us) ++ more) us ≡ map (spot_met f owners)
       (filter (is_reached f asking) us)
   in_turn [] more = refl
-  in_turn (u ∷ us) more = by (is_for f asking u.number u.role) (is_met f.arrays u) (is_map (layout_for f u.array).form) refl refl
+  in_turn (u ∷ us) more = by (is_for f asking u.number u.role u.plain) (is_met f.arrays u) (is_map (layout_for f u.array).form) refl refl
       (in_turn us more)
     where
       later : List Use
@@ -123,10 +123,10 @@ pub told_filtered : (f : LoopFacts) (asking : Asking) (told : List Place) (us : 
     → spots_told f asking told us ≡ spots_told f asking told (filter (is_reached f asking) us)
 told_filtered f asking told [] = refl
 told_filtered f asking told (u ∷ us) =
-    by (is_for f asking u.number u.role) (is_met f.arrays u) (is_map (layout_for f u.array).form) refl refl refl
+    by (is_for f asking u.number u.role u.plain) (is_met f.arrays u) (is_map (layout_for f u.array).form) refl refl refl
     (λ t. told_filtered f asking t us)
   where
-    by : (a b c : Bool) → is_for f asking u.number u.role ≡ a → is_met f.arrays u ≡ b → is_map (layout_for f u.array).form ≡ c
+    by : (a b c : Bool) → is_for f asking u.number u.role u.plain ≡ a → is_met f.arrays u ≡ b → is_map (layout_for f u.array).form ≡ c
         → ((t : List Place) → spots_told f asking t us ≡ spots_told f asking t (filter (is_reached f asking) us))
         → cond (a && b) (spot_of f told u ∷ []) [] ++ spots_told f asking (cond (a && b && c) (drop 1 told) told) us
         ≡ spots_told f asking told (cond (a && b) (u ∷ filter (is_reached f asking) us) (filter (is_reached f asking) us))
@@ -145,7 +145,7 @@ told_filtered f asking told (u ∷ us) =
 pub asked_filtered : (f : LoopFacts) (asking : Asking) (us : List Use) → filter (is_asked f asking) us
     ≡ filter (λ u. is_map (layout_for f u.array).form) (filter (is_reached f asking) us)
 asked_filtered f asking [] = refl
-asked_filtered f asking (u ∷ us) = by (is_for f asking u.number u.role) (is_met f.arrays u) (asked_filtered f asking us)
+asked_filtered f asking (u ∷ us) = by (is_for f asking u.number u.role u.plain) (is_met f.arrays u) (asked_filtered f asking us)
   where
     mapped : List Use
     mapped = filter (λ v. is_map (layout_for f v.array).form) (filter (is_reached f asking) us)

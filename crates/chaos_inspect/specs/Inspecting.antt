@@ -1,7 +1,6 @@
 -- How far an inspection has come, and what it has in hand there.
 use Rattle.std.specs.Prelude.{◌≡◌, ℕ, ◌<◌, ◌≤◌, ℤ, Bool, if◌then◌else◌, List, length, map, Option, Some, None, is_some, IfSome}
 use Rattle.std.specs.Prelude.{Result, OnErr}
-use Rattle.std.specs.List.{list_any}
 use Rattle.std.specs.Option.{option_and_then}
 use Rattle.inspect_places.specs.Asks.{IsAsked}
 use Rattle.inspect_places.specs.Laws.{uses_wanted}
@@ -13,17 +12,17 @@ use Rattle.chaos_sched.specs.declared.prepared.Prepared.{Prepared}
 use Rattle.fd_words.specs.declared.place.Offence.{Offence}
 use Rattle.fd_program.specs.Homes.{inspected_by}
 use Rattle.fd_program.specs.Loops.{offence_of}
-use Rattle.fd_words.specs.Roles.{is_index}
 use Rattle.fd_program.specs.declared.loop_facts.LoopFacts.{LoopFacts}
-use Rattle.fd_program.specs.declared.reference.Reference.{Reference}
-use Rattle.plan_loop.specs.LoopLetters.{asks_places, indexes_of, owed_in, sent_in}
+use Rattle.plan_loop.specs.LoopLetters.{asks_places, has_level, indexes_of, owed_in, sent_in}
 use Rattle.plan_loop.specs.declared.loop_phase.Asking.{Asking}
 use Rattle.plan_loop.specs.declared.loop_phase.Asking.TheVariants.{Indexes, Homes, References}
+use Rattle.plan_loop.specs.declared.loop_phase.Level.{Level}
+use Rattle.plan_loop.specs.declared.loop_phase.Level.TheVariants.{First, Second}
 use Rattle.plan_loop.specs.declared.loop_phase.LoopPhase.{LoopPhase}
 use Rattle.plan_loop.specs.declared.loop_phase.LoopPhase.TheVariants.{DerefAsk, DerefAnswer, Gather, IndexAsk, IndexValues, Iterations}
 use Rattle.plan_loop.specs.declared.loop_phase.LoopPhase.TheVariants.{Scatter, ScheduleAsk, Vote}
 use Rattle.inspect_uses.specs.Accepted.{AreOwners, IsAccepted}
-use Rattle.chaos_inspect.specs.Met.{places_asked, rows_of, spot_met, values_of}
+use Rattle.chaos_inspect.specs.Met.{firsts_of, places_asked, rows_of, spot_met, values_of}
 use Rattle.chaos_inspect.specs.declared.inspection.Inspection.{Inspection}
 use Rattle.chaos_inspect.specs.declared.stage.Stage.{Stage}
 use Rattle.chaos_inspect.specs.declared.stage.Stage.TheVariants.{Seeking, Telling, Fetching, Answering, Voting, Refused, Homing, Entered}
@@ -33,8 +32,8 @@ use Rattle.chaos_inspect.specs.declared.stage.Stage.TheVariants.{Ready}
 abbrev pub phase_of : Stage → Option LoopPhase
 phase_of (Seeking asking) = Some (DerefAsk asking)
 phase_of (Telling asking asked) = Some (DerefAnswer asking)
-phase_of Fetching = Some IndexAsk
-phase_of (Answering asked) = Some IndexValues
+phase_of (Fetching level) = Some (IndexAsk level)
+phase_of (Answering level asked) = Some (IndexValues level)
 phase_of Voting = Some Vote
 phase_of (Refused offence) = None
 phase_of (Homing told) = Some Iterations
@@ -53,12 +52,17 @@ HasNoOffence x store = offence_of x.facts.arrays x.facts.site x.facts.turn store
 abbrev pub HasValues : Inspection → List (List ℤ) → Type 0
 HasValues x store = x.values ≡ values_of x.facts store x.me
 
-abbrev pub HasSpots : Inspection → List (List ℕ) → List (List ℤ) → Type 0
-HasSpots x owners store = x.spots ≡ map (spot_met x.facts owners) (indexes_of x.facts store x.me)
+abbrev pub HasSpots : Inspection → List (List ℕ) → List (List ℤ) → Level → Type 0
+HasSpots x owners store level = x.spots ≡ map (spot_met x.facts owners) (indexes_of x.facts store level x.me)
+
+-- the values that are known as those of a level are fetched
+abbrev pub AreKnown : LoopFacts → List (List ℤ) → ℕ → Level → List ℤ → Type 0
+AreKnown f store p First values = Unit {0}
+AreKnown f store p Second values = values ≡ firsts_of f store p
 
 -- before a round of asking for places
 abbrev pub InRound : Inspection → List (List ℕ) → List (List ℤ) → Asking → Type 0
-InRound x owners store Indexes = Unit {0}
+InRound x owners store (Indexes level) = AreKnown x.facts store x.me level x.values
 InRound x owners store Homes = HasValues x store × HasNoOffence x store
 InRound x owners store References = HasNoOffence x store × (x.rows ≡ rows_of x.facts owners store x.me)
 
@@ -70,8 +74,9 @@ abbrev pub InHand : Inspection → List (List ℕ) → List (List ℤ) → List 
 InHand x owners store tables (Seeking asking) = IsSeeking x owners store asking
 InHand x owners store tables (Telling asking asked) = IsSeeking x owners store asking
     × (asked ≡ owed_in x.facts owners store (DerefAsk asking) x.me)
-InHand x owners store tables Fetching = HasSpots x owners store
-InHand x owners store tables (Answering asked) = HasSpots x owners store × (asked ≡ owed_in x.facts owners store IndexAsk x.me)
+InHand x owners store tables (Fetching level) = HasSpots x owners store level × AreKnown x.facts store x.me level x.values
+InHand x owners store tables (Answering level asked) = (HasSpots x owners store level × AreKnown x.facts store x.me level x.values)
+    × (asked ≡ owed_in x.facts owners store (IndexAsk level) x.me)
 InHand x owners store tables Voting = HasValues x store
 InHand x owners store tables (Refused offence) = offence_of x.facts.arrays x.facts.site x.facts.turn store ≡ Some offence
 InHand x owners store tables (Homing told) = HasValues x store × HasNoOffence x store
@@ -120,37 +125,38 @@ IsOwed x owners store lists = IfSome (phase_of x.stage) (λ l. lists ≡ owed_in
 
 -- ---- from stage to stage
 
-abbrev pub has_indexes : LoopFacts → Bool
-has_indexes f = list_any (λ (r : Reference). is_index r.role) f.site.references
-
 -- where the inspection begins: places of index references are asked for, or their values, or there are none
 abbrev pub first_stage : Bool → Bool → Stage
-first_stage asks has = if asks then Seeking Indexes else if has then Fetching else Voting
+first_stage asks has = if asks then Seeking (Indexes First) else if has then Fetching First else Voting
 
-abbrev pub phase_first : Bool → Bool → LoopPhase
-phase_first asks has = if asks then DerefAsk Indexes else if has then IndexAsk else Vote
+-- into a round of fetching, if there is anything to ask for in it, else past it
+abbrev pub phase_into : Bool → Bool → Level → LoopPhase → LoopPhase
+phase_into asks has level next = if asks then DerefAsk (Indexes level) else if has then IndexAsk level else next
+
+abbrev pub second_phase : LoopFacts → LoopPhase
+second_phase f = phase_into (asks_places f (Indexes Second)) (has_level f Second) Second Vote
 
 abbrev pub first_phase : LoopFacts → LoopPhase
-first_phase f = phase_first (asks_places f Indexes) (has_indexes f)
+first_phase f = phase_into (asks_places f (Indexes First)) (has_level f First) First (second_phase f)
 
--- the phase that follows one of an inspection, where no node has an offence; places of the references that tell homes are asked for or not,
--- and those
--- of other references
-abbrev pub phase_behind : Bool → Bool → LoopPhase → Option LoopPhase
-phase_behind homes references (DerefAsk asking) = Some (DerefAnswer asking)
-phase_behind homes references (DerefAnswer Indexes) = Some IndexAsk
-phase_behind homes references (DerefAnswer Homes) = Some Iterations
-phase_behind homes references (DerefAnswer References) = Some ScheduleAsk
-phase_behind homes references IndexAsk = Some IndexValues
-phase_behind homes references IndexValues = Some Vote
-phase_behind homes references Vote = Some (if homes then DerefAsk Homes else Iterations)
-phase_behind homes references Iterations = Some (if references then DerefAsk References else ScheduleAsk)
-phase_behind homes references ScheduleAsk = None
-phase_behind homes references Gather = None
-phase_behind homes references Scatter = None
+-- the phase that follows one of an inspection, where no node has an offence: `second` follows the first round of fetching; places of
+-- the references that tell homes are asked for or not, and those of other references
+abbrev pub phase_behind : LoopPhase → Bool → Bool → LoopPhase → Option LoopPhase
+phase_behind second homes references (DerefAsk asking) = Some (DerefAnswer asking)
+phase_behind second homes references (DerefAnswer (Indexes level)) = Some (IndexAsk level)
+phase_behind second homes references (DerefAnswer Homes) = Some Iterations
+phase_behind second homes references (DerefAnswer References) = Some ScheduleAsk
+phase_behind second homes references (IndexAsk level) = Some (IndexValues level)
+phase_behind second homes references (IndexValues First) = Some second
+phase_behind second homes references (IndexValues Second) = Some Vote
+phase_behind second homes references Vote = Some (if homes then DerefAsk Homes else Iterations)
+phase_behind second homes references Iterations = Some (if references then DerefAsk References else ScheduleAsk)
+phase_behind second homes references ScheduleAsk = None
+phase_behind second homes references Gather = None
+phase_behind second homes references Scatter = None
 
 abbrev pub phase_after : LoopFacts → LoopPhase → Option LoopPhase
-phase_after f phase = phase_behind (asks_places f Homes) (asks_places f References) phase
+phase_after f phase = phase_behind (second_phase f) (asks_places f Homes) (asks_places f References) phase
 
 -- the stage is one without an offence, of the phase that follows
 abbrev pub Follows : LoopFacts → LoopPhase → Stage → Type 0

@@ -10,6 +10,7 @@ use Rattle.plan_loop.specs.LoopLetters.{iteration_row}
 use Rattle.fd_program.specs.Met.{local_met}
 use Rattle.plan_loop.specs.declared.loop_phase.Asking.{Asking}
 use Rattle.inspect_uses.specs.Reached.{place_met}
+use Rattle.inspect_uses.specs.KnownLaws.{firsts_at}
 use Rattle.inspect_uses.specs.ReachedLaws.{values_at}
 use Rattle.chaos_inspect.specs.declared.spot.Spot.{Spot}
 
@@ -20,6 +21,10 @@ spot_met f owners u = record { owner = owner_met f owners u; array = u.array; lo
 -- the values that the index references give of the iterations that a node inspects
 abbrev pub values_of : LoopFacts → List (List ℤ) → ℕ → List ℤ
 values_of f store p = flat_map (values_at f store) (inspected_by f p)
+
+-- and those that the index references with a plain subscript give
+abbrev pub firsts_of : LoopFacts → List (List ℤ) → ℕ → List ℤ
+firsts_of f store p = flat_map (firsts_at f store) (inspected_by f p)
 
 -- the rows of the iterations whose home a node is
 abbrev pub rows_of : LoopFacts → List (List ℕ) → List (List ℤ) → ℕ → List ℤ

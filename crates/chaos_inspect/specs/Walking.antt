@@ -1,7 +1,6 @@
 -- What a node tells of iterations by itself: without the store, from the values that index references give and the places that it was told.
 use Rattle.std.specs.Prelude.{ℕ, ℤ, pos, negsuc, Bool, ◌&&◌, if◌then◌else◌, List, [], ◌∷◌, ◌++◌, map, drop, take, count_by, slice_get}
 use Rattle.std.specs.Prelude.{unwrap_or}
-use Rattle.std.specs.List.{flat_map}
 use Rattle.std.specs.Int.{w64, cast_signed}
 use Rattle.fd_words.specs.Lists.{list_at}
 use Rattle.fd_words.specs.declared.place.Place.{Place}
@@ -14,7 +13,7 @@ use Rattle.fd_program.specs.Stores.{number_at}
 use Rattle.fd_program.specs.Uses.{gives_index, is_met}
 use Rattle.fd_program.specs.declared.loop_facts.LoopFacts.{LoopFacts}
 use Rattle.fd_program.specs.declared.loop_use.Use.{Use}
-use Rattle.inspect_uses.specs.Reached.{uses_with, place_reached}
+use Rattle.inspect_uses.specs.Reached.{gives_first, known_with, uses_with, place_reached}
 use Rattle.chaos_inspect.specs.declared.spot.Spot.{Spot}
 
 -- ---- the references of several iterations
@@ -25,9 +24,17 @@ uses_through f [] values = []
 uses_through f (i ∷ is) values =
     uses_with f i values ++ uses_through f is (drop (count_by (gives_index f.arrays) (uses_with f i values)) values)
 
--- without values: what index references are, whatever they give
-abbrev pub uses_without : LoopFacts → List ℤ → List Use
-uses_without f is = flat_map (λ i. uses_with f i []) is
+-- where those of their index references that have a plain subscript give these values, and the others give nothing
+abbrev pub known_through : LoopFacts → List ℤ → List ℤ → List Use
+known_through f [] firsts = []
+known_through f (i ∷ is) firsts =
+    known_with f i firsts ++ known_through f is (drop (count_by (gives_first f.arrays) (known_with f i firsts)) firsts)
+
+-- the values of both levels, in the order of these index references
+abbrev pub woven : List Use → List ℤ → List ℤ → List ℤ
+woven [] firsts seconds = []
+woven (u ∷ us) firsts seconds =
+    if u.plain then number_at firsts 0 ∷ woven us (drop 1 firsts) seconds else number_at seconds 0 ∷ woven us firsts (drop 1 seconds)
 
 -- ---- places
 
@@ -36,11 +43,11 @@ nowhere = record { owner = 0; local = 0 }
 
 -- the asking is for the reference, and its array has the element
 abbrev pub is_reached : LoopFacts → Asking → Use → Bool
-is_reached f asking u = is_for f asking u.number u.role && is_met f.arrays u
+is_reached f asking u = is_for f asking u.number u.role u.plain && is_met f.arrays u
 
 -- and no formula tells its place
 abbrev pub is_asked : LoopFacts → Asking → Use → Bool
-is_asked f asking u = is_for f asking u.number u.role && is_met f.arrays u && is_map (layout_for f u.array).form
+is_asked f asking u = is_for f asking u.number u.role u.plain && is_met f.arrays u && is_map (layout_for f u.array).form
 
 -- the place by formula, else the first of those told
 abbrev pub place_or_told : LoopFacts → List Place → Use → Place

@@ -1,34 +1,35 @@
-ghost use Rattle.std.specs.Prelude.{◌≡◌, ◌<◌, ◌≤◌, ℕ, ℤ, false, List, length, Some, None, IfOk, OnOk, OnErr};
-ghost use Rattle.std.specs.List.{list_any};
+ghost use Rattle.std.specs.Prelude.{◌≡◌, ◌<◌, ◌≤◌, ℕ, ℤ, false, List, length, map, Some, None, IfOk, OnOk, OnErr};
 ghost use Rattle.std.specs.Option.{option_map};
 ghost use Rattle.chaos_hash.specs.Stamps.{Stamps};
 ghost use Rattle.chaos_inspect.specs.Inspecting.{Follows, HasNoOffence, HasSpots, HasValues, IsDue, IsInspecting, IsNext, IsOwed, IsReady};
-ghost use Rattle.chaos_inspect.specs.Inspecting.{IsGiven, StaysKept, IsSame};
+ghost use Rattle.chaos_inspect.specs.Inspecting.{AreKnown, IsGiven, StaysKept, IsSame};
 ghost use Rattle.chaos_inspect.specs.Inspecting.{IsSeeking, IsVoted, first_phase, first_stage, prepared_in, offence_in, phase_of};
-ghost use Rattle.chaos_inspect.specs.Met.{places_asked, rows_of};
+ghost use Rattle.chaos_inspect.specs.Met.{firsts_of, places_asked, rows_of};
 ghost use Rattle.chaos_inspect.specs.declared.stage.Stage.TheVariants as stage;
 ghost use Rattle.fd_program.specs.Places.{parts_of};
-ghost use Rattle.fd_words.specs.Roles.{is_index};
+ghost use Rattle.fd_program.specs.Uses.{read_of};
 ghost use Rattle.inspect_places.specs.Asks.{ArePages};
 ghost use Rattle.inspect_uses.specs.Accepted.{AreOwners, IsAccepted};
-ghost use Rattle.plan_loop.specs.LoopLetters.{asks_places, kind_in_loop, owed_in, sent_in};
+ghost use Rattle.plan_loop.specs.LoopLetters.{asks_places, indexes_of, kind_in_loop, owed_in, sent_in};
 ghost use Rattle.plan_loop.specs.declared.loop_phase.Asking.{Asking as AskingOf};
 ghost use Rattle.plan_loop.specs.declared.loop_phase.Asking.TheVariants as round;
+ghost use Rattle.plan_loop.specs.declared.loop_phase.Level.{Level as LevelOf};
+ghost use Rattle.plan_loop.specs.declared.loop_phase.Level.TheVariants as levels;
 ghost use Rattle.plan_loop.specs.declared.loop_phase.LoopPhase.TheVariants as phase;
 ghost use Rattle.plan_tables.specs.Fits.{Fits};
 ghost use Rattle.plan_tables.specs.Tables.{HasPlaces, IsEntered, KeepsOtherStamps, slots_entered};
 
 use crate::spot::Spots;
 use crate::stage::Stage;
-use crate::{homes, index, range, round, spot, votes};
+use crate::{homes, index, range, round, spot, votes, weave};
 use chaos_letter::Kind;
 use chaos_sched::Prepared;
-use fd_program::{LoopFacts, Reference};
-use fd_words::{Memory, NumberLists, Numbers, Offence, Place, Places, Role};
+use fd_program::LoopFacts;
+use fd_words::{Memory, NumberLists, Numbers, Offence, Place, Places};
 use inspect_enter::{enter, uses_to_place};
 use inspect_places::{Asked, PageSet};
 use node_tables::TableSet;
-use plan_loop::{Asking, LoopPhase};
+use plan_loop::{Asking, Level, LoopPhase};
 use std::alloc::Global;
 
 /// One inspection of a FORALL on one node.
@@ -49,21 +50,14 @@ pub struct Inspection {
     pub stage: Stage,
 }
 
-/// Whether one of these is an index reference.
-fn has_index(references: &[Reference]) -> bool
-    ensures { result ≡ list_any (λ r. is_index r.role) references.now }
-{
-    references.iter().any(|r| r.role == Role::Index)
-}
-
 /// Where an inspection begins.
 fn first(seeks: bool, has_indexes: bool) -> Stage
     ensures { result ≡ first_stage seeks has_indexes }
 {
     if seeks {
-        Stage::Seeking(Asking::Indexes)
+        Stage::Seeking(Asking::Indexes(Level::First))
     } else if has_indexes {
-        Stage::Fetching
+        Stage::Fetching(Level::First)
     } else {
         Stage::Voting
     }
@@ -83,10 +77,11 @@ impl Inspection {
             → AreOwners facts owners → IsInspecting x owners store tables) }
     {
         let mine = range::inspected(alloc, &facts, me)?;
-        let seeks = round::asks(&facts, Asking::Indexes);
+        let seeks = round::asks(&facts, Asking::Indexes(Level::First));
         let asked = round::first_asked(alloc, &facts, seeks, mine.as_slice())?;
         let spots = spot::first_spots(alloc, &facts, seeks, mine.as_slice())?;
-        let stage = first(seeks, has_index(facts.site.references.as_slice()));
+        let fetches = round::has(&facts, Level::First);
+        let stage = first(seeks, fetches);
         Ok(Inspection {
             facts,
             me,
@@ -122,8 +117,8 @@ impl Inspection {
         match &self.stage {
             Stage::Seeking(asking) => Some(LoopPhase::DerefAsk(*asking)),
             Stage::Telling(asking, _) => Some(LoopPhase::DerefAnswer(*asking)),
-            Stage::Fetching => Some(LoopPhase::IndexAsk),
-            Stage::Answering(_) => Some(LoopPhase::IndexValues),
+            Stage::Fetching(level) => Some(LoopPhase::IndexAsk(*level)),
+            Stage::Answering(level, _) => Some(LoopPhase::IndexValues(*level)),
             Stage::Voting => Some(LoopPhase::Vote),
             Stage::Refused(_) => None,
             Stage::Homing(_) => Some(LoopPhase::Iterations),
@@ -149,8 +144,8 @@ impl Inspection {
         match &self.stage {
             Stage::Seeking(_) => None,
             Stage::Telling(_, _) => None,
-            Stage::Fetching => None,
-            Stage::Answering(_) => None,
+            Stage::Fetching(_) => None,
+            Stage::Answering(_, _) => None,
             Stage::Voting => None,
             Stage::Refused(offence) => Some(*offence),
             Stage::Homing(_) => None,
@@ -173,9 +168,9 @@ impl Inspection {
     /// The asks for the values of index arrays.
     fn asks(&self, alloc: Global) -> Result<NumberLists, Memory>
         requires { IsAccepted self.now.facts }
-        ensures { IfOk result (λ lists. (owners : List (List ℕ)) (store : List (List ℤ)) (tables : List Stamps)
-            → IsInspecting self.now owners store tables → HasSpots self.now owners store
-            → lists ≡ sent_in self.now.facts owners store phase.IndexAsk self.now.me) }
+        ensures { IfOk result (λ lists. (owners : List (List ℕ)) (store : List (List ℤ)) (tables : List Stamps) (level : LevelOf)
+            → IsInspecting self.now owners store tables → HasSpots self.now owners store level
+            → lists ≡ sent_in self.now.facts owners store (phase.IndexAsk level) self.now.me) }
     {
         index::asks(alloc, self.facts.nodes, self.spots.as_slice())
     }
@@ -188,11 +183,11 @@ impl Inspection {
         asked: &[Numbers],
     ) -> Result<NumberLists, Memory>
         requires { IsAccepted self.now.facts }
-        ensures { IfOk result (λ lists. (owners : List (List ℕ)) (store : List (List ℤ)) (tables : List Stamps)
+        ensures { IfOk result (λ lists. (owners : List (List ℕ)) (store : List (List ℤ)) (tables : List Stamps) (level : LevelOf)
             → IsInspecting self.now owners store tables
             → pieces.now ≡ parts_of self.now.facts.arrays owners store self.now.me
-            → asked.now ≡ owed_in self.now.facts owners store phase.IndexAsk self.now.me
-            → lists ≡ sent_in self.now.facts owners store phase.IndexValues self.now.me) }
+            → asked.now ≡ owed_in self.now.facts owners store (phase.IndexAsk level) self.now.me
+            → lists ≡ sent_in self.now.facts owners store (phase.IndexValues level) self.now.me) }
     {
         index::told(alloc, pieces, asked)
     }
@@ -250,8 +245,8 @@ impl Inspection {
         match &self.stage {
             Stage::Seeking(_) => self.place_asks(alloc),
             Stage::Telling(_, asked) => inspect_places::answers(alloc, &self.facts, pages, asked),
-            Stage::Fetching => self.asks(alloc),
-            Stage::Answering(asked) => self.answers(alloc, pieces, asked.as_slice()),
+            Stage::Fetching(_) => self.asks(alloc),
+            Stage::Answering(_, asked) => self.answers(alloc, pieces, asked.as_slice()),
             Stage::Voting => self.votes(alloc),
             Stage::Refused(_) => Ok(NumberLists::new(alloc)),
             Stage::Homing(told) => self.home_rows(alloc, told.as_slice()),
@@ -281,18 +276,26 @@ impl Inspection {
         Ok(())
     }
 
-    /// These are the places of index references.
-    fn find_indexes(&mut self, alloc: Global, told: &[Place]) -> Result<(), Memory>
+    /// These are the places of a level's index references.
+    fn find_indexes(&mut self, alloc: Global, level: Level, told: &[Place]) -> Result<(), Memory>
         requires { IsAccepted self.old.facts }
         ensures same { IsSame self.old self.new result }
-        ensures next { OnOk result (Follows self.old.facts (phase.DerefAnswer round.Indexes) self.new.stage) }
+        ensures next { OnOk result (Follows self.old.facts (phase.DerefAnswer (round.Indexes level)) self.new.stage) }
         ensures inspecting { OnOk result ((owners : List (List ℕ)) (store : List (List ℤ)) (tables : List Stamps)
-            → IsInspecting self.old owners store tables
-            → told.now ≡ places_asked self.old.facts owners store round.Indexes self.old.me → IsInspecting self.new owners store tables) }
+            → IsInspecting self.old owners store tables → AreKnown self.old.facts store self.old.me level self.old.values
+            → told.now ≡ places_asked self.old.facts owners store (round.Indexes level) self.old.me
+            → IsInspecting self.new owners store tables) }
     {
-        let spots = spot::spots(alloc, &self.facts, self.mine.as_slice(), told)?;
+        let spots = spot::spots(
+            alloc,
+            &self.facts,
+            level,
+            self.mine.as_slice(),
+            self.values.as_slice(),
+            told,
+        )?;
         self.spots = spots;
-        self.stage = Stage::Fetching;
+        self.stage = Stage::Fetching(level);
         Ok(())
     }
 
@@ -362,7 +365,7 @@ impl Inspection {
     {
         let told = self.told(alloc, taken)?;
         match asking {
-            Asking::Indexes => self.find_indexes(alloc, told.as_slice()),
+            Asking::Indexes(level) => self.find_indexes(alloc, level, told.as_slice()),
             Asking::Homes => {
                 self.stage = Stage::Homing(told);
                 Ok(())
@@ -371,30 +374,133 @@ impl Inspection {
         }
     }
 
-    fn take_asks(&mut self, alloc: Global, taken: &NumberLists) -> Result<(), Memory>
+    /// The other nodes' asks for values of a level's index arrays are here.
+    fn take_asks(&mut self, alloc: Global, level: Level, taken: &NumberLists) -> Result<(), Memory>
         ensures same { IsSame self.old self.new result }
-        ensures next { OnOk result (Follows self.old.facts phase.IndexAsk self.new.stage) }
+        ensures next { OnOk result (Follows self.old.facts (phase.IndexAsk level) self.new.stage) }
         ensures inspecting { OnOk result ((owners : List (List ℕ)) (store : List (List ℤ)) (tables : List Stamps)
-            → IsInspecting self.old owners store tables → HasSpots self.old owners store
-            → taken.now ≡ owed_in self.old.facts owners store phase.IndexAsk self.old.me → IsInspecting self.new owners store tables) }
+            → IsInspecting self.old owners store tables → HasSpots self.old owners store level
+            → AreKnown self.old.facts store self.old.me level self.old.values
+            → taken.now ≡ owed_in self.old.facts owners store (phase.IndexAsk level) self.old.me
+            → IsInspecting self.new owners store tables) }
     {
         let asked = taken.copy(alloc)?;
-        self.stage = Stage::Answering(asked);
+        self.stage = Stage::Answering(level, asked);
         Ok(())
     }
 
-    fn take_values(&mut self, alloc: Global, taken: &NumberLists) -> Result<(), Memory>
+    /// Asks for the places of the second level's index references, where those of the first give these
+    /// values.
+    fn seek_second(&mut self, alloc: Global, values: Numbers) -> Result<(), Memory>
         requires { IsAccepted self.old.facts }
         ensures same { IsSame self.old self.new result }
-        ensures next { OnOk result (Follows self.old.facts phase.IndexValues self.new.stage) }
+        ensures stage { OnOk result ((offence_in self.new.stage ≡ None)
+            × (phase_of self.new.stage ≡ Some (phase.DerefAsk (round.Indexes levels.Second)))) }
         ensures inspecting { OnOk result ((owners : List (List ℕ)) (store : List (List ℤ)) (tables : List Stamps)
-            → IsInspecting self.old owners store tables → HasSpots self.old owners store
-            → taken.now ≡ owed_in self.old.facts owners store phase.IndexValues self.old.me → IsInspecting self.new owners store tables) }
+            → IsInspecting self.old owners store tables → values ≡ firsts_of self.old.facts store self.old.me
+            → IsInspecting self.new owners store tables) }
     {
-        let values = index::values(alloc, self.spots.as_slice(), taken)?;
+        let asked = round::level_asked(
+            alloc,
+            &self.facts,
+            Level::Second,
+            self.mine.as_slice(),
+            values.as_slice(),
+        )?;
+        self.asked = asked;
+        self.values = values;
+        self.stage = Stage::Seeking(Asking::Indexes(Level::Second));
+        Ok(())
+    }
+
+    /// Finds the second level's index references by formula, where those of the first give these values.
+    fn find_second(&mut self, alloc: Global, values: Numbers) -> Result<(), Memory>
+        requires { IsAccepted self.old.facts }
+        ensures same { IsSame self.old self.new result }
+        ensures stage { OnOk result ((offence_in self.new.stage ≡ None)
+            × (phase_of self.new.stage ≡ Some (phase.IndexAsk levels.Second))) }
+        ensures inspecting { OnOk result ((owners : List (List ℕ)) (store : List (List ℤ)) (tables : List Stamps)
+            → IsInspecting self.old owners store tables → values ≡ firsts_of self.old.facts store self.old.me
+            → asks_places self.old.facts (round.Indexes levels.Second) ≡ false
+            → IsInspecting self.new owners store tables) }
+    {
+        let spots = spot::spots(
+            alloc,
+            &self.facts,
+            Level::Second,
+            self.mine.as_slice(),
+            values.as_slice(),
+            &[],
+        )?;
+        self.spots = spots;
+        self.values = values;
+        self.stage = Stage::Fetching(Level::Second);
+        Ok(())
+    }
+
+    /// These are the values of the first level: fetches those of the second, or goes on to the votes.
+    fn fetch_second(&mut self, alloc: Global, values: Numbers) -> Result<(), Memory>
+        requires { IsAccepted self.old.facts }
+        ensures same { IsSame self.old self.new result }
+        ensures next { OnOk result (Follows self.old.facts (phase.IndexValues levels.First) self.new.stage) }
+        ensures inspecting { OnOk result ((owners : List (List ℕ)) (store : List (List ℤ)) (tables : List Stamps)
+            → IsInspecting self.old owners store tables → values ≡ firsts_of self.old.facts store self.old.me
+            → IsInspecting self.new owners store tables) }
+    {
+        if round::asks(&self.facts, Asking::Indexes(Level::Second)) {
+            self.seek_second(alloc, values)
+        } else if round::has(&self.facts, Level::Second) {
+            self.find_second(alloc, values)
+        } else {
+            self.values = values;
+            self.stage = Stage::Voting;
+            Ok(())
+        }
+    }
+
+    /// These are the values of the second level: puts both levels' into one list.
+    fn weave(&mut self, alloc: Global, seconds: &[i64]) -> Result<(), Memory>
+        requires { IsAccepted self.old.facts }
+        ensures same { IsSame self.old self.new result }
+        ensures next { OnOk result (Follows self.old.facts (phase.IndexValues levels.Second) self.new.stage) }
+        ensures inspecting { OnOk result ((owners : List (List ℕ)) (store : List (List ℤ)) (tables : List Stamps)
+            → IsInspecting self.old owners store tables → AreKnown self.old.facts store self.old.me levels.Second self.old.values
+            → seconds.now ≡ map (read_of store) (indexes_of self.old.facts store levels.Second self.old.me)
+            → IsInspecting self.new owners store tables) }
+    {
+        let uses = weave::index_uses(
+            alloc,
+            &self.facts,
+            self.mine.as_slice(),
+            self.values.as_slice(),
+        )?;
+        let values = weave::woven(alloc, uses.as_slice(), self.values.as_slice(), seconds)?;
         self.values = values;
         self.stage = Stage::Voting;
         Ok(())
+    }
+
+    /// The values of a level's index arrays are here.
+    fn take_values(
+        &mut self,
+        alloc: Global,
+        level: Level,
+        taken: &NumberLists,
+    ) -> Result<(), Memory>
+        requires { IsAccepted self.old.facts }
+        ensures same { IsSame self.old self.new result }
+        ensures next { OnOk result (Follows self.old.facts (phase.IndexValues level) self.new.stage) }
+        ensures inspecting { OnOk result ((owners : List (List ℕ)) (store : List (List ℤ)) (tables : List Stamps)
+            → IsInspecting self.old owners store tables → HasSpots self.old owners store level
+            → AreKnown self.old.facts store self.old.me level self.old.values
+            → taken.now ≡ owed_in self.old.facts owners store (phase.IndexValues level) self.old.me
+            → IsInspecting self.new owners store tables) }
+    {
+        let values = index::values(alloc, self.spots.as_slice(), taken)?;
+        match level {
+            Level::First => self.fetch_second(alloc, values),
+            Level::Second => self.weave(alloc, values.as_slice()),
+        }
     }
 
     /// Asks for the places of the references that tell homes.
@@ -554,8 +660,14 @@ impl Inspection {
                 let asking = *asking;
                 self.take_places(alloc, taken, tables, asking)
             }
-            Stage::Fetching => self.take_asks(alloc, taken),
-            Stage::Answering(_) => self.take_values(alloc, taken),
+            Stage::Fetching(level) => {
+                let level = *level;
+                self.take_asks(alloc, level, taken)
+            }
+            Stage::Answering(level, _) => {
+                let level = *level;
+                self.take_values(alloc, level, taken)
+            }
             Stage::Voting => self.take_votes(alloc, taken),
             Stage::Refused(_) => Ok(()),
             Stage::Homing(_) => self.take_rows(alloc, taken, tables),

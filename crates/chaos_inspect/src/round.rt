@@ -1,19 +1,20 @@
 //! The rounds in which an inspection asks for places.
 ghost use Rattle.std.specs.Prelude.{◌≡◌, ◌≤◌, ◌∷◌, ◌++◌, [], true, length, count_by, filter, IfOk, OnOk};
-ghost use Rattle.plan_loop.specs.LoopLetters.{asks_places, is_for as is_for_by, is_looked_at as is_looked_at_by};
+ghost use Rattle.plan_loop.specs.LoopLetters.{asks_places, has_level, is_for as is_for_by, is_looked_at as is_looked_at_by};
 ghost use Rattle.fd_program.specs.Met.{is_map, layout_for};
 ghost use Rattle.plan_loop.specs.declared.loop_phase.Asking.TheVariants as round;
+ghost use Rattle.plan_loop.specs.declared.loop_phase.Level.TheVariants as levels;
 ghost use Rattle.inspect_places.specs.Asks.{IsAsked};
 ghost use Rattle.inspect_uses.specs.Accepted.{IsAccepted};
-ghost use Rattle.chaos_inspect.specs.Walking.{is_asked as is_asked_by, is_reached as is_reached_by, uses_through};
+ghost use Rattle.chaos_inspect.specs.Walking.{is_asked as is_asked_by, is_reached as is_reached_by, known_through, uses_through};
 
 use crate::votes::behind;
 use chaos_dist::StepForm;
-use fd_program::{HomeRule, LoopFacts, Use, Uses, first_target, is_met};
+use fd_program::{HomeRule, LoopFacts, Use, Uses, first_target, is_met, is_plain};
 use fd_words::{Memory, Role};
 use inspect_places::Asked;
-use inspect_uses::{given, layout_of, uses};
-use plan_loop::Asking;
+use inspect_uses::{given, given_first, known, layout_of, uses};
+use plan_loop::{Asking, Level};
 use std::alloc::Global;
 
 /// Whether the rule looks at the reference with this number.
@@ -26,12 +27,12 @@ fn is_looked_at(facts: &LoopFacts, number: u32) -> bool
     }
 }
 
-/// Whether an asking is for the reference with this number and role.
-fn is_for(facts: &LoopFacts, asking: Asking, number: u32, role: Role) -> bool
-    ensures { result ≡ is_for_by facts.now asking number role }
+/// Whether an asking is for the reference with this number and role, whose subscript is `plain`, or isn't.
+fn is_for(facts: &LoopFacts, asking: Asking, number: u32, role: Role, plain: bool) -> bool
+    ensures { result ≡ is_for_by facts.now asking number role plain }
 {
     match asking {
-        Asking::Indexes => role.is_index(),
+        Asking::Indexes(level) => role.is_index() && level.is_at(plain),
         Asking::Homes => is_looked_at(facts, number),
         Asking::References => !role.is_index(),
     }
@@ -55,7 +56,10 @@ pub fn asks(facts: &LoopFacts, asking: Asking) -> bool
     let references = facts.site.references.as_slice();
     let mut number: u32 = 1;
     for reference in references {
-        if is_for(facts, asking, number, reference.role) && is_mapped(facts, reference.array) {
+        let plain = is_plain(&reference.subscript);
+        if is_for(facts, asking, number, reference.role, plain)
+            && is_mapped(facts, reference.array)
+        {
             return true;
         }
         number += 1;
@@ -63,18 +67,27 @@ pub fn asks(facts: &LoopFacts, asking: Asking) -> bool
     false
 }
 
+/// Whether there are index references of this level.
+pub fn has(facts: &LoopFacts, level: Level) -> bool
+    ensures { result ≡ has_level facts.now level }
+{
+    facts.site.references.as_slice().iter().any(|r| r.role.is_index()
+        && level.is_at(is_plain(&r.subscript)))
+}
+
 /// Whether an asking is for a reference, and its array has the element.
 pub fn is_reached(facts: &LoopFacts, asking: Asking, used: Use) -> bool
     ensures { result ≡ is_reached_by facts.now asking used }
 {
-    is_for(facts, asking, used.number, used.role) && is_met(facts.arrays.as_slice(), used)
+    is_for(facts, asking, used.number, used.role, used.plain)
+        && is_met(facts.arrays.as_slice(), used)
 }
 
 /// Whether the place of a reference is asked for.
 pub fn is_asked(facts: &LoopFacts, asking: Asking, used: Use) -> bool
     ensures { result ≡ is_asked_by facts.now asking used }
 {
-    is_for(facts, asking, used.number, used.role)
+    is_for(facts, asking, used.number, used.role, used.plain)
         && is_met(facts.arrays.as_slice(), used)
         && is_mapped(facts, used.array)
 }
@@ -151,7 +164,45 @@ pub fn asked(
     Asked::new(alloc, facts, uses.as_slice())
 }
 
-/// The asks for the places of index references, if any are asked for.
+/// The same, where the values alone are known that index references with a plain subscript give.
+fn known_wanted(
+    alloc: Global,
+    facts: &LoopFacts,
+    asking: Asking,
+    iterations: &[i64],
+    firsts: &[i64],
+) -> Result<Uses, Memory>
+    requires { length facts.now.site.references ≤ 64 }
+    ensures { IfOk result (λ list. list ≡ filter (is_asked_by facts.now asking) (known_through facts.now iterations.now firsts.now)) }
+{
+    let arrays = facts.arrays.as_slice();
+    let mut list = Uses::new(alloc);
+    let mut rest = firsts;
+    for i in iterations {
+        let used = known(alloc, facts, *i, rest)?;
+        keep_all(facts, asking, used.as_slice(), &mut list)?;
+        rest = behind(rest, given_first(arrays, used.as_slice()));
+    }
+    Ok(list)
+}
+
+/// The asks for the places of a level's index references, where those of the first give these values.
+pub fn level_asked(
+    alloc: Global,
+    facts: &LoopFacts,
+    level: Level,
+    iterations: &[i64],
+    firsts: &[i64],
+) -> Result<Asked, Memory>
+    requires { IsAccepted facts.now }
+    ensures { IfOk result (λ asked. IsAsked facts.now
+        (filter (is_asked_by facts.now (round.Indexes level)) (known_through facts.now iterations.now firsts.now)) asked) }
+{
+    let uses = known_wanted(alloc, facts, Asking::Indexes(level), iterations, firsts)?;
+    Asked::new(alloc, facts, uses.as_slice())
+}
+
+/// The asks for the places of the first level's index references, if any are asked for.
 pub fn first_asked(
     alloc: Global,
     facts: &LoopFacts,
@@ -159,11 +210,11 @@ pub fn first_asked(
     iterations: &[i64],
 ) -> Result<Asked, Memory>
     requires { IsAccepted facts.now }
-    ensures { IfOk result (λ asked. seeks ≡ true
-        → IsAsked facts.now (filter (is_asked_by facts.now round.Indexes) (uses_through facts.now iterations.now [])) asked) }
+    ensures { IfOk result (λ asked. seeks ≡ true → IsAsked facts.now
+        (filter (is_asked_by facts.now (round.Indexes levels.First)) (known_through facts.now iterations.now [])) asked) }
 {
     if seeks {
-        asked(alloc, facts, Asking::Indexes, iterations, &[])
+        level_asked(alloc, facts, Level::First, iterations, &[])
     } else {
         Asked::new(alloc, facts, &[])
     }

@@ -2,15 +2,17 @@
 ghost use Rattle.std.specs.Prelude.{◌≡◌, ◌≤◌, ◌∷◌, ◌++◌, [], true, false, count_by, drop, IfOk, OnOk};
 ghost use Rattle.fd_program.specs.Uses.{is_met as is_met_of};
 ghost use Rattle.plan_loop.specs.declared.loop_phase.Asking.TheVariants as round;
+ghost use Rattle.plan_loop.specs.declared.loop_phase.Level.TheVariants as levels;
 ghost use Rattle.inspect_uses.specs.Accepted.{IsAccepted};
-ghost use Rattle.chaos_inspect.specs.Walking.{is_asked as is_asked_by, place_or_told, spot_of, spots_one, spots_told, told_behind};
-ghost use Rattle.chaos_inspect.specs.Walking.{uses_without};
+ghost use Rattle.chaos_inspect.specs.Walking.{is_asked as is_asked_by, known_through, place_or_told, spot_of, spots_one, spots_told};
+ghost use Rattle.chaos_inspect.specs.Walking.{told_behind};
 
 use crate::round::{asked_of, is_asked, is_reached};
+use crate::votes;
 use fd_program::{LoopFacts, Use};
 use fd_words::{Memory, Place};
-use inspect_uses::{place_by_formula, uses};
-use plan_loop::Asking;
+use inspect_uses::{given_first, known, place_by_formula};
+use plan_loop::{Asking, Level};
 use sqlite_items::Items;
 use std::alloc::Global;
 
@@ -123,28 +125,35 @@ pub fn behind_all<'a>(
     behind(told, asked_of(facts, asking, uses))
 }
 
-/// Where the elements of index arrays stand that these iterations look at; `told` has the places that
-/// are asked for, in order.
+/// Where the elements of a level's index arrays stand that these iterations look at, where index references
+/// of the first give these values; `told` has the places that are asked for, in order.
 pub fn spots(
     alloc: Global,
     facts: &LoopFacts,
+    level: Level,
     iterations: &[i64],
+    firsts: &[i64],
     told: &[Place],
 ) -> Result<Spots, Memory>
     requires { IsAccepted facts.now }
-    ensures { IfOk result (λ spots. spots ≡ spots_told facts.now round.Indexes told.now (uses_without facts.now iterations.now)) }
+    ensures { IfOk result (λ spots. spots ≡ spots_told facts.now (round.Indexes level) told.now
+        (known_through facts.now iterations.now firsts.now)) }
 {
+    let arrays = facts.arrays.as_slice();
+    let asking = Asking::Indexes(level);
     let mut spots = Spots::new(alloc);
-    let mut rest = told;
+    let mut rest = firsts;
+    let mut places = told;
     for i in iterations {
-        let used = uses(alloc, facts, *i, &[])?;
-        note(facts, Asking::Indexes, rest, used.as_slice(), &mut spots)?;
-        rest = behind_all(facts, Asking::Indexes, rest, used.as_slice());
+        let used = known(alloc, facts, *i, rest)?;
+        note(facts, asking, places, used.as_slice(), &mut spots)?;
+        places = behind_all(facts, asking, places, used.as_slice());
+        rest = votes::behind(rest, given_first(arrays, used.as_slice()));
     }
     Ok(spots)
 }
 
-/// Where they stand, if no place is asked for.
+/// Where those of the first level stand, if no place is asked for.
 pub fn first_spots(
     alloc: Global,
     facts: &LoopFacts,
@@ -152,11 +161,12 @@ pub fn first_spots(
     iterations: &[i64],
 ) -> Result<Spots, Memory>
     requires { IsAccepted facts.now }
-    ensures { IfOk result (λ spots. seeks ≡ false → spots ≡ spots_told facts.now round.Indexes [] (uses_without facts.now iterations.now)) }
+    ensures { IfOk result (λ spots. seeks ≡ false → spots ≡ spots_told facts.now (round.Indexes levels.First) []
+        (known_through facts.now iterations.now [])) }
 {
     if seeks {
         Ok(Spots::new(alloc))
     } else {
-        spots(alloc, facts, iterations, &[])
+        spots(alloc, facts, Level::First, iterations, &[], &[])
     }
 }

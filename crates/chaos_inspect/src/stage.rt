@@ -3,7 +3,7 @@ ghost use Rattle.std.specs.Prelude.{◌≡◌, IfOk};
 use chaos_sched::Prepared;
 use fd_words::{Memory, NumberLists, Offence, Places};
 use inspect_enter::Entering;
-use plan_loop::Asking;
+use plan_loop::{Asking, Level};
 use std::alloc::Global;
 
 /// How far an inspection has come, and what it has in hand there.
@@ -13,10 +13,10 @@ pub enum Stage {
     Seeking(Asking),
     /// The other nodes' asks for places are here, and are answered from this node's pages.
     Telling(Asking, NumberLists),
-    /// The values of index arrays are asked for.
-    Fetching,
+    /// The values of a level's index arrays are asked for.
+    Fetching(Level),
     /// The other nodes' asks for values are here, and are answered.
-    Answering(NumberLists),
+    Answering(Level, NumberLists),
     /// The values are here; the votes are due.
     Voting,
     /// A node had an offence: the end.
@@ -38,8 +38,8 @@ impl Stage {
         match self {
             Stage::Seeking(asking) => Ok(Stage::Seeking(*asking)),
             Stage::Telling(asking, asked) => Ok(Stage::Telling(*asking, asked.copy(alloc)?)),
-            Stage::Fetching => Ok(Stage::Fetching),
-            Stage::Answering(asked) => Ok(Stage::Answering(asked.copy(alloc)?)),
+            Stage::Fetching(level) => Ok(Stage::Fetching(*level)),
+            Stage::Answering(level, asked) => Ok(Stage::Answering(*level, asked.copy(alloc)?)),
             Stage::Voting => Ok(Stage::Voting),
             Stage::Refused(offence) => Ok(Stage::Refused(*offence)),
             Stage::Homing(told) => Ok(Stage::Homing(Places::from_slice(alloc, told.as_slice())?)),

@@ -9,7 +9,7 @@ use Rattle.chaos_inspect.proofs.inspection.Inspection.answers.Goals as goal
 pub returns : goal.returns
 returns c =
     let x = c.args.self.now in
-    IfOk-weaker c.told.result _ _ (λ lists e owners store tables h pieces asked.
+    IfOk-weaker c.told.result _ _ (λ lists e owners store tables level h pieces asked.
     e ∙ ap (map (piece_values c.args.pieces.now)) asked
-    ∙ ap (λ p. map (piece_values p) (owed_in x.facts owners store IndexAsk x.me)) pieces
-    ∙ answers_right x.facts owners store x.me c.requires h.owned) c.told.ensures
+    ∙ ap (λ p. map (piece_values p) (owed_in x.facts owners store (IndexAsk level) x.me)) pieces
+    ∙ answers_right x.facts owners store level x.me c.requires h.owned) c.told.ensures

@@ -9,6 +9,6 @@ use Rattle.chaos_inspect.proofs.inspection.Inspection.asks.Goals as goal
 pub returns : goal.returns
 returns c =
     let x = c.args.self.now in
-    IfOk-weaker c.asks.result _ _ (λ lists e owners store tables h spots.
+    IfOk-weaker c.asks.result _ _ (λ lists e owners store tables level h spots.
     e ∙ ap (deals (λ (s : Spot). s.owner) spot_ask x.facts.nodes) (c.as_slice.ensures ∙ spots)
-    ∙ asks_right x.facts owners store x.me c.requires h.owned) c.asks.ensures
+    ∙ asks_right x.facts owners store level x.me c.requires h.owned) c.asks.ensures

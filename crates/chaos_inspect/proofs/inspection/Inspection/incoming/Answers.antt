@@ -10,8 +10,9 @@ returns-in-Seeking-clause-inspecting c = on_ok_weaker c.take_place_asks.result (
 
 pub returns-in-Fetching-clause-inspecting : goal.returns-in-Fetching-clause-inspecting
 returns-in-Fetching-clause-inspecting c = on_ok_weaker c.take_asks.result (λ e owners store h owed.
-    e owners store c.args.tables.now h (hand_at c.args.self.now owners store Fetching c.in-Fetching.is c.args.tables.now h)
-    (owed_at c.args.self.now owners store Fetching c.in-Fetching.is c.args.taken.now owed)) c.take_asks.ensures.inspecting
+    let hand = hand_at c.args.self.now owners store (Fetching _) c.in-Fetching.is c.args.tables.now h in
+    e owners store c.args.tables.now h hand.0 hand.1
+    (owed_at c.args.self.now owners store (Fetching _) c.in-Fetching.is c.args.taken.now owed)) c.take_asks.ensures.inspecting
 
 pub returns-in-Voting-clause-inspecting : goal.returns-in-Voting-clause-inspecting
 returns-in-Voting-clause-inspecting c = on_ok_weaker c.take_votes.result (λ e owners store h owed.
@@ -25,8 +26,9 @@ returns-in-Telling-clause-inspecting c = on_ok_weaker c.take_places.result (λ e
 
 pub returns-in-Answering-clause-inspecting : goal.returns-in-Answering-clause-inspecting
 returns-in-Answering-clause-inspecting c = on_ok_weaker c.take_values.result (λ e owners store h owed.
-    e owners store c.args.tables.now h (hand_at c.args.self.now owners store (Answering _) c.in-Answering.is c.args.tables.now h).0
-    (owed_at c.args.self.now owners store (Answering _) c.in-Answering.is c.args.taken.now owed)) c.take_values.ensures.inspecting
+    let hand = (hand_at c.args.self.now owners store (Answering _ _) c.in-Answering.is c.args.tables.now h).0 in
+    e owners store c.args.tables.now h hand.0 hand.1
+    (owed_at c.args.self.now owners store (Answering _ _) c.in-Answering.is c.args.taken.now owed)) c.take_values.ensures.inspecting
 
 pub returns-in-Homing-clause-inspecting : goal.returns-in-Homing-clause-inspecting
 returns-in-Homing-clause-inspecting c = on_ok_weaker c.take_rows.result (λ e owners store h owed.

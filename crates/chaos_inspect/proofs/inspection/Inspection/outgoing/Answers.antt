@@ -17,14 +17,14 @@ returns-in-Telling c = IfOk-weaker c.answers.result _ _ (λ lists e owners store
 
 pub returns-in-Fetching : goal.returns-in-Fetching
 returns-in-Fetching c = IfOk-weaker c.asks.result _ _ (λ lists e owners store tables h pieces pages.
-    due_at c.args.self.now owners store Fetching c.in-Fetching.is lists
-    (e owners store tables h (hand_at c.args.self.now owners store Fetching c.in-Fetching.is tables h))) c.asks.ensures
+    due_at c.args.self.now owners store (Fetching _) c.in-Fetching.is lists
+    (e owners store tables _ h (hand_at c.args.self.now owners store (Fetching _) c.in-Fetching.is tables h).0)) c.asks.ensures
 
 pub returns-in-Answering : goal.returns-in-Answering
 returns-in-Answering c = IfOk-weaker c.answers-in-Answering.result _ _ (λ lists e owners store tables h pieces pages.
-    due_at c.args.self.now owners store (Answering c.in-Answering.asked) c.in-Answering.is lists
-    (e owners store tables h pieces (c.as_slice.ensures
-    ∙ (hand_at c.args.self.now owners store (Answering c.in-Answering.asked) c.in-Answering.is tables h).1)))
+    due_at c.args.self.now owners store (Answering _ c.in-Answering.asked) c.in-Answering.is lists
+    (e owners store tables _ h pieces (c.as_slice.ensures
+    ∙ (hand_at c.args.self.now owners store (Answering _ c.in-Answering.asked) c.in-Answering.is tables h).1)))
     c.answers-in-Answering.ensures
 
 pub returns-in-Voting : goal.returns-in-Voting

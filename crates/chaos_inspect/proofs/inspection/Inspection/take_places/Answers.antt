@@ -1,13 +1,13 @@
 use Rattle.std.proofs.Common.{ap, ◌∙◌, subst}
 use Rattle.std.proofs.lemmas.Result.{on_ok_weaker}
-use Rattle.chaos_inspect.specs.Inspecting.{IsSeeking}
+use Rattle.chaos_inspect.specs.Inspecting.{InRound, IsSeeking}
 use Rattle.chaos_inspect.specs.Met.{places_asked}
 use Rattle.chaos_inspect.proofs.inspection.Inspection.take_places.Goals as goal
 
 pub returns-in-Indexes-clause-inspecting : goal.returns-in-Indexes-clause-inspecting
 returns-in-Indexes-clause-inspecting c = on_ok_weaker c.find_indexes.result (λ e owners store h seeking taken.
     let x = c.args.self.now in
-    e owners store c.args.tables.now h
+    e owners store c.args.tables.now h (subst (InRound x owners store) c.in-Indexes.is seeking.1)
     (c.as_slice.ensures ∙ c.in_ok-told.ensures owners store c.args.asking h.owned seeking taken
     ∙ ap (λ a. places_asked x.facts owners store a x.me) c.in-Indexes.is)) c.find_indexes.ensures.inspecting
 
