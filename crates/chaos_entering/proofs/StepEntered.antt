@@ -16,13 +16,14 @@ use Rattle.fd_program.specs.StepLaws.{IsStepOf}
 use Rattle.chaos_executing.specs.InRun.{CanExecute}
 use Rattle.chaos_hash.specs.Stamps.{Stamps}
 use Rattle.chaos_table.specs.declared.pages.Pages.{Pages}
-use Rattle.chaos_inspect.specs.Inspecting.{IsInspecting, first_phase, has_indexes, phase_first, phase_of}
+use Rattle.chaos_inspect.specs.Inspecting.{IsInspecting, first_phase, phase_into, phase_of}
 use Rattle.chaos_inspect.specs.declared.inspection.Inspection.{Inspection}
 use Rattle.chaos_moving.specs.InRun.{owners_after}
 use Rattle.chaos_moving.specs.IsMoving.{IsMoving}
 use Rattle.chaos_moving.specs.declared.moving.Moving.{Moving}
-use Rattle.plan_loop.specs.LoopLetters.{asks_places}
+use Rattle.plan_loop.specs.LoopLetters.{asks_places, has_level}
 use Rattle.plan_loop.specs.declared.loop_phase.Asking.TheVariants.{Indexes}
+use Rattle.plan_loop.specs.declared.loop_phase.Level.TheVariants.{First, Second}
 use Rattle.plan_loop.specs.declared.loop_phase.LoopPhase.{LoopPhase}
 use Rattle.plan_loop.specs.declared.loop_phase.LoopPhase.TheVariants as phase
 use Rattle.plan_walk.specs.PhaseBegins.{only_inspections_stop, phases_are_counted, steps_are_over}
@@ -258,15 +259,20 @@ state_noted st number site = record st {
   holdings = record st.holdings { kept = slice_set st.holdings.kept site no_kept };
 }
 
-not_executing : (a b : Bool) → is_executing (stage.InLoop (phase_first a b)) ≡ false
-not_executing true b = refl
-not_executing false true = refl
-not_executing false false = refl
+not_executing : (a b c d : Bool)
+    → is_executing (stage.InLoop (phase_into a b First (phase_into c d Second phase.Vote))) ≡ false
+not_executing true b c d = refl
+not_executing false true c d = refl
+not_executing false false true d = refl
+not_executing false false false true = refl
+not_executing false false false false = refl
 
-free_first : (a b : Bool) → is_free (stage.InLoop (phase_first a b)) ≡ true
-free_first true b = refl
-free_first false true = refl
-free_first false false = refl
+free_first : (a b c d : Bool) → is_free (stage.InLoop (phase_into a b First (phase_into c d Second phase.Vote))) ≡ true
+free_first true b c d = refl
+free_first false true c d = refl
+free_first false false true d = refl
+free_first false false false true = refl
+free_first false false false false = refl
 
 map_append : (xs ys : List ℕ) → map pos (xs ++ ys) ≡ map pos xs ++ map pos ys
 map_append [] ys = refl
@@ -312,7 +318,7 @@ inspection_comes plan past rest number site turn p left st next numbered at =
         };
         keeps = inspection_begins s (run_in plan) past site turn (first_phase f) p st.holdings.tables st.holdings.tables st.holdings.kept
             at.inspects
-            (not_executing (asks_places f Indexes) (has_indexes f)) (λ k other steps t owners store q x h. h) come.keeps;
+            (not_executing (asks_places f (Indexes First)) (has_level f First) (asks_places f (Indexes Second)) (has_level f Second)) (λ k other steps t owners store q x h. h) come.keeps;
         inspected = noted_if;
         text = come.text;
         refused = come.refused;
@@ -400,7 +406,8 @@ begin_is_right session b pages number site f left i e new placed enters plan pas
     let facts : f ≡ loop_at s past site loop.turn = begins.facts ∙ facts_same s past step site begins.loop loop in
     let later : ComesNext plan past (Forall site loop.turn ∷ rest) b.me left st =
     subst (λ (x : Step). ComesNext plan past (x ∷ rest) b.me left st) loop.is next in
-    let present = first_phase (loop_at s past site loop.turn) in
+    let f = loop_at s past site loop.turn in
+    let present = first_phase f in
     let goes_on : GoesOnInspecting plan past site loop.turn present b.me st.holdings.tables i = record {
       phase_is = new.phase_is ∙ ap (λ x. Some (first_phase x)) facts;
       some = loop.at.some;
@@ -412,7 +419,7 @@ begin_is_right session b pages number site f left i e new placed enters plan pas
     let right = enters plan past rest loop.turn present (state_noted st number site) known same numbered
     (inspection_comes plan past rest number site loop.turn b.me left st later numbered loop.at) goes_on (sym here.parts) paged
     (knows_free plan past (Forall site loop.turn) (stage.InLoop present) b.me []
-    (free_first (asks_places (loop_at s past site loop.turn) Indexes) (has_indexes (loop_at s past site loop.turn)))) in
+    (free_first (asks_places f (Indexes First)) (has_level f First) (asks_places f (Indexes Second)) (has_level f Second))) in
     let phases = left_in plan past (Forall site loop.turn) rest (stage.InLoop present ∷ stages_behind (loop_at s past site loop.turn)
     present) in
     let begun : EntersAs plan phases b.me (with_begin e) st = record {

@@ -25,8 +25,8 @@ indexes_in c site = length (filter (λ (r : Reference). is_index r.role) (site_a
 abbrev pub group_in_loop : Checked → LoopPhase → ℕ → ℕ
 group_in_loop c (phase.DerefAsk asking) site = 2
 group_in_loop c (phase.DerefAnswer asking) site = 2
-group_in_loop c phase.IndexAsk site = 2
-group_in_loop c phase.IndexValues site = 1
+group_in_loop c (phase.IndexAsk level) site = 2
+group_in_loop c (phase.IndexValues level) site = 1
 group_in_loop c phase.Vote site = 4
 group_in_loop c phase.Iterations site = 1 + indexes_in c site
 group_in_loop c phase.ScheduleAsk site = 4
@@ -47,7 +47,7 @@ group_in c (stage.InLoop l) site = group_in_loop c l site
 
 abbrev pub counts_behind_loop : LoopPhase → List ℕ → List ℕ
 counts_behind_loop (phase.DerefAnswer asking) sizes = sizes
-counts_behind_loop phase.IndexValues sizes = map (λ n. n / 2) sizes
+counts_behind_loop (phase.IndexValues level) sizes = map (λ n. n / 2) sizes
 counts_behind_loop _ sizes = []
 
 abbrev pub counts_behind : Stage → ℕ → List ℕ → List ℕ

@@ -62,8 +62,8 @@ fn group_of_loop(checked: &Checked, phase: LoopPhase, site: u32) -> u64
     ensures { result ≡ group_in_loop checked.now phase site }
 {
     match phase {
-        LoopPhase::DerefAsk(_) | LoopPhase::DerefAnswer(_) | LoopPhase::IndexAsk => 2,
-        LoopPhase::IndexValues => 1,
+        LoopPhase::DerefAsk(_) | LoopPhase::DerefAnswer(_) | LoopPhase::IndexAsk(_) => 2,
+        LoopPhase::IndexValues(_) => 1,
         LoopPhase::Vote | LoopPhase::ScheduleAsk => 4,
         LoopPhase::Iterations => width(checked, site),
         LoopPhase::Gather | LoopPhase::Scatter => 3,

@@ -48,8 +48,8 @@ fn counts_in_loop(alloc: Global, phase: LoopPhase, sizes: &[u64]) -> Result<Vec<
 {
     match phase {
         LoopPhase::DerefAnswer(_) => Ok(Vec::from_slice(alloc, sizes)?),
-        LoopPhase::IndexValues => halved(alloc, sizes),
-        LoopPhase::DerefAsk(_) | LoopPhase::IndexAsk | LoopPhase::Vote => Ok(Vec::new(alloc)),
+        LoopPhase::IndexValues(_) => halved(alloc, sizes),
+        LoopPhase::DerefAsk(_) | LoopPhase::IndexAsk(_) | LoopPhase::Vote => Ok(Vec::new(alloc)),
         LoopPhase::Iterations | LoopPhase::ScheduleAsk => Ok(Vec::new(alloc)),
         LoopPhase::Gather | LoopPhase::Scatter => Ok(Vec::new(alloc)),
     }

@@ -67,8 +67,8 @@ voted : (before after : InspectStage) (l : LoopPhase) → IsVoted before after �
     ≡ true → l ≡ phase.Vote
 voted (Seeking asking) after l h e told = absurd (no_offence (offence_in after) h told)
 voted (Telling asking asked) after l h e told = absurd (no_offence (offence_in after) h told)
-voted Fetching after l h e told = absurd (no_offence (offence_in after) h told)
-voted (Answering asked) after l h e told = absurd (no_offence (offence_in after) h told)
+voted (Fetching level) after l h e told = absurd (no_offence (offence_in after) h told)
+voted (Answering level asked) after l h e told = absurd (no_offence (offence_in after) h told)
 voted Voting after l h e told = cc
 voted (Stopped offence) after l h e told = cc
 voted (Homing told) after l h e some = absurd (no_offence (offence_in after) h some)

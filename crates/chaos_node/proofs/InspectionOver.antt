@@ -104,8 +104,8 @@ no_offence_ready : (x : Inspection) (owners : List (List ℕ)) (store : List (Li
     → InHand x owners store tables s → HasNoOffence x store
 no_offence_ready x owners store tables (Seeking asking) e none h = cc
 no_offence_ready x owners store tables (Telling asking asked) e none h = cc
-no_offence_ready x owners store tables Fetching e none h = cc
-no_offence_ready x owners store tables (Answering asked) e none h = cc
+no_offence_ready x owners store tables (Fetching level) e none h = cc
+no_offence_ready x owners store tables (Answering level asked) e none h = cc
 no_offence_ready x owners store tables Voting e none h = cc
 no_offence_ready x owners store tables (Stopped offence) e none h = cc
 no_offence_ready x owners store tables (Homing told) e none h = cc

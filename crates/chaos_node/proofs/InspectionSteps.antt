@@ -22,12 +22,15 @@ use Rattle.fd_program.specs.declared.refused.Refused.{Refused}
 use Rattle.fd_program.specs.declared.trace.LoopTurn.{LoopTurn}
 use Rattle.fd_program.specs.declared.trace.Step.{Step}
 use Rattle.fd_program.specs.declared.trace.Step.TheVariants.{Forall}
-use Rattle.plan_loop.specs.LoopLetters.{asks_places}
+use Rattle.plan_loop.specs.LoopLetters.{asks_places, has_level}
 use Rattle.plan_loop.specs.declared.loop_phase.Asking.{Asking}
 use Rattle.plan_loop.specs.declared.loop_phase.Asking.TheVariants.{Indexes, Homes, References}
+use Rattle.plan_loop.specs.declared.loop_phase.Level.{Level}
+use Rattle.plan_loop.specs.declared.loop_phase.Level.TheVariants.{First, Second}
 use Rattle.plan_loop.specs.declared.loop_phase.LoopPhase.{LoopPhase}
 use Rattle.plan_loop.specs.declared.loop_phase.LoopPhase.TheVariants as phase
-use Rattle.chaos_inspect.specs.Inspecting.{HasNoOffence, InHand, IsReady, offence_in, phase_after, phase_of}
+use Rattle.chaos_inspect.specs.Inspecting.{HasNoOffence, InHand, IsReady, offence_in, phase_after, phase_into, phase_of}
+use Rattle.chaos_inspect.specs.Inspecting.{second_phase}
 use Rattle.chaos_inspect.specs.declared.inspection.Inspection.{Inspection}
 use Rattle.chaos_inspect.specs.declared.stage.Stage.{Stage as InspectStage}
 use Rattle.chaos_inspect.specs.declared.stage.Stage.TheVariants.{Seeking, Telling, Fetching, Answering, Voting, Refused as Stopped, Homing}
@@ -66,8 +69,8 @@ work_is_left f e = by f.left f.due f.out e
 pub ready_at_end : (s : InspectStage) → phase_of s ≡ None → offence_in s ≡ None → IsReady s
 ready_at_end (Seeking asking) e h = cc
 ready_at_end (Telling asking asked) e h = cc
-ready_at_end Fetching e h = cc
-ready_at_end (Answering asked) e h = cc
+ready_at_end (Fetching level) e h = cc
+ready_at_end (Answering level asked) e h = cc
 ready_at_end Voting e h = cc
 ready_at_end (Stopped offence) e h = cc
 ready_at_end (Homing told) e h = cc
@@ -84,8 +87,8 @@ IsEarly l = is_executing (stage.InLoop l) ≡ false
 pub inspection_is_early : (s : InspectStage) (l : LoopPhase) → phase_of s ≡ Some l → IsEarly l
 inspection_is_early (Seeking asking) l e = some_of IsEarly (phase.DerefAsk asking) l e refl
 inspection_is_early (Telling asking asked) l e = some_of IsEarly (phase.DerefAnswer asking) l e refl
-inspection_is_early Fetching l e = some_of IsEarly phase.IndexAsk l e refl
-inspection_is_early (Answering asked) l e = some_of IsEarly phase.IndexValues l e refl
+inspection_is_early (Fetching level) l e = some_of IsEarly (phase.IndexAsk level) l e refl
+inspection_is_early (Answering level asked) l e = some_of IsEarly (phase.IndexValues level) l e refl
 inspection_is_early Voting l e = some_of IsEarly phase.Vote l e refl
 inspection_is_early (Stopped offence) l e = cc
 inspection_is_early (Homing told) l e = some_of IsEarly phase.Iterations l e refl
@@ -100,16 +103,16 @@ phase_home b = if b then phase.DerefAsk Homes else phase.Iterations
 no_offence_behind : (x : Inspection) (owners : List (List ℕ)) (store : List (List ℤ)) (tables : List Stamps) (s : InspectStage) (b : Bool)
     → phase_of s ≡ Some (phase_home b)
     → InHand x owners store tables s → HasNoOffence x store
-no_offence_behind x owners store tables (Seeking Indexes) true e h = cc
+no_offence_behind x owners store tables (Seeking (Indexes level)) true e h = cc
 no_offence_behind x owners store tables (Seeking Homes) true e h = h.1.1
 no_offence_behind x owners store tables (Seeking References) true e h = cc
 no_offence_behind x owners store tables (Seeking asking) false e h = cc
 no_offence_behind x owners store tables (Telling asking asked) true e h = cc
 no_offence_behind x owners store tables (Telling asking asked) false e h = cc
-no_offence_behind x owners store tables Fetching true e h = cc
-no_offence_behind x owners store tables Fetching false e h = cc
-no_offence_behind x owners store tables (Answering asked) true e h = cc
-no_offence_behind x owners store tables (Answering asked) false e h = cc
+no_offence_behind x owners store tables (Fetching level) true e h = cc
+no_offence_behind x owners store tables (Fetching level) false e h = cc
+no_offence_behind x owners store tables (Answering level asked) true e h = cc
+no_offence_behind x owners store tables (Answering level asked) false e h = cc
 no_offence_behind x owners store tables Voting true e h = cc
 no_offence_behind x owners store tables Voting false e h = cc
 no_offence_behind x owners store tables (Stopped offence) b e h = cc
@@ -150,8 +153,8 @@ pub left_passes : (plan : RunPlan) (past : List Step) (site : ℕ) (turn : LoopT
     ≡ present_phase plan past (Forall site turn) rest (stage.InLoop l) stages ∷ left_in plan past (Forall site turn) rest stages
 left_passes plan past site turn rest (phase.DerefAsk asking) stages at h = phases_follow plan past (Forall site turn) rest _ stages refl
 left_passes plan past site turn rest (phase.DerefAnswer asking) stages at h = phases_follow plan past (Forall site turn) rest _ stages refl
-left_passes plan past site turn rest phase.IndexAsk stages at h = phases_follow plan past (Forall site turn) rest _ stages refl
-left_passes plan past site turn rest phase.IndexValues stages at h = phases_follow plan past (Forall site turn) rest _ stages refl
+left_passes plan past site turn rest (phase.IndexAsk level) stages at h = phases_follow plan past (Forall site turn) rest _ stages refl
+left_passes plan past site turn rest (phase.IndexValues level) stages at h = phases_follow plan past (Forall site turn) rest _ stages refl
 left_passes plan past site turn rest phase.Vote stages at h = votes_pass plan past (Forall site turn) rest _ stages at (h refl)
 left_passes plan past site turn rest phase.Iterations stages at h = phases_follow plan past (Forall site turn) rest _ stages refl
 left_passes plan past site turn rest phase.ScheduleAsk stages at h = phases_follow plan past (Forall site turn) rest _ stages refl
@@ -280,14 +283,19 @@ answers_known plan past site turn asking p sizes e known q less =
     (λ q. length (numbers_at (scene_in plan) past (Forall site turn) (stage.InLoop (phase.DerefAsk asking)) p q)) plan.nodes q less
     ∙ sym (place_answers_are_known (scene_in plan) past site turn asking p q)
 
-values_known : (plan : RunPlan) (past : List Step) (site : ℕ) (turn : LoopTurn) (p : ℕ) (sizes : List ℕ)
-    → sizes ≡ sizes_at plan past site turn phase.IndexAsk p
-    → Lengths plan past site turn p sizes phase.IndexValues
-values_known plan past site turn p sizes e known q less =
-    let g : ℕ → ℕ = λ q. length (numbers_at (scene_in plan) past (Forall site turn) (stage.InLoop phase.IndexAsk) p q) in
+values_known : (plan : RunPlan) (past : List Step) (site : ℕ) (turn : LoopTurn) (level : Level) (p : ℕ) (sizes : List ℕ)
+    → sizes ≡ sizes_at plan past site turn (phase.IndexAsk level) p
+    → Lengths plan past site turn p sizes (phase.IndexValues level)
+values_known plan past site turn level p sizes e known q less =
+    let g : ℕ → ℕ = λ q. length (numbers_at (scene_in plan) past (Forall site turn) (stage.InLoop (phase.IndexAsk level)) p q) in
     ap (λ l. number_in (map (λ n. n / 2) l) q) e ∙ ap (λ l. number_in l q) (halves g (below plan.nodes))
     ∙ number_at (λ q. g q / 2) plan.nodes q less
-    ∙ half _ (g q) (index_values_are_known (scene_in plan) past site turn p q)
+    ∙ half _ (g q) (index_values_are_known (scene_in plan) past site turn level p q)
+
+free_second : (a b : Bool) → is_free (stage.InLoop (phase_into a b Second phase.Vote)) ≡ true
+free_second true b = refl
+free_second false true = refl
+free_second false false = refl
 
 -- the lengths of the letters of the next phase, from those of the lists that were sent
 pub lengths_behind : (plan : RunPlan) (past : List Step) (site : ℕ) (turn : LoopTurn) (l next : LoopPhase) (p : ℕ) (sizes : List ℕ)
@@ -295,15 +303,20 @@ pub lengths_behind : (plan : RunPlan) (past : List Step) (site : ℕ) (turn : Lo
     → KnowsLengths plan past (Forall site turn) (stage.InLoop next) p sizes
 lengths_behind plan past site turn (phase.DerefAsk asking) next p sizes e h =
     some_of (Lengths plan past site turn p sizes) (phase.DerefAnswer asking) next e (answers_known plan past site turn asking p sizes h)
-lengths_behind plan past site turn (phase.DerefAnswer Indexes) next p sizes e h =
-    some_of (Lengths plan past site turn p sizes) phase.IndexAsk next e (free_lengths plan past site turn phase.IndexAsk p sizes refl)
+lengths_behind plan past site turn (phase.DerefAnswer (Indexes level)) next p sizes e h =
+    some_of (Lengths plan past site turn p sizes) (phase.IndexAsk level) next e
+    (free_lengths plan past site turn (phase.IndexAsk level) p sizes refl)
 lengths_behind plan past site turn (phase.DerefAnswer Homes) next p sizes e h =
     some_of (Lengths plan past site turn p sizes) phase.Iterations next e (free_lengths plan past site turn phase.Iterations p sizes refl)
 lengths_behind plan past site turn (phase.DerefAnswer References) next p sizes e h =
     some_of (Lengths plan past site turn p sizes) phase.ScheduleAsk next e (free_lengths plan past site turn phase.ScheduleAsk p sizes refl)
-lengths_behind plan past site turn phase.IndexAsk next p sizes e h =
-    some_of (Lengths plan past site turn p sizes) phase.IndexValues next e (values_known plan past site turn p sizes h)
-lengths_behind plan past site turn phase.IndexValues next p sizes e h =
+lengths_behind plan past site turn (phase.IndexAsk level) next p sizes e h =
+    some_of (Lengths plan past site turn p sizes) (phase.IndexValues level) next e (values_known plan past site turn level p sizes h)
+lengths_behind plan past site turn (phase.IndexValues First) next p sizes e h =
+    let f = loop_at (scene_in plan) past site turn in
+    some_of (Lengths plan past site turn p sizes) (second_phase f) next e (free_lengths plan past site turn (second_phase f) p sizes
+    (free_second (asks_places f (Indexes Second)) (has_level f Second)))
+lengths_behind plan past site turn (phase.IndexValues Second) next p sizes e h =
     some_of (Lengths plan past site turn p sizes) phase.Vote next e (free_lengths plan past site turn phase.Vote p sizes refl)
 lengths_behind plan past site turn phase.Vote next p sizes e h =
     let b = asks_places (loop_at (scene_in plan) past site turn) Homes in

@@ -63,8 +63,8 @@ told_offence : (x : Inspection) (owners : List (List ℕ)) (store : List (List �
     → InHand x owners store tables s → offence_of x.facts.arrays x.facts.site x.facts.turn store ≡ Some o
 told_offence x owners store tables (Seeking asking) o e h = cc
 told_offence x owners store tables (Telling asking asked) o e h = cc
-told_offence x owners store tables Fetching o e h = cc
-told_offence x owners store tables (Answering asked) o e h = cc
+told_offence x owners store tables (Fetching level) o e h = cc
+told_offence x owners store tables (Answering level asked) o e h = cc
 told_offence x owners store tables Voting o e h = cc
 told_offence x owners store tables (Stopped offence) o e h = h ∙ e
 told_offence x owners store tables (Homing told) o e h = cc
