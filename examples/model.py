@@ -97,17 +97,25 @@ class Loop:
         self.executed = self.inspected = self.gathered = self.scattered = 0
         self.record, self.loads = None, {}
 
+    def through(self, line, levels):
+        """A subscript through index arrays: at most so many, each an index reference, the innermost first."""
+        name = line.next()
+        line.next("(")
+        if line.skips(self.index):
+            inner = ("plain", offset(line))
+        else:
+            assert levels > 1, line.words
+            inner = self.through(line, levels - 1)
+        self.references.append(("index", name, inner))
+        line.next(")")
+        return ("through", offset(line))
+
     def element(self, line, name, role):
         line.next("(")
         if line.skips(self.index):
             form = ("plain", offset(line))
         elif line.words[1:2] == ["("] and line.see() not in "(+-":
-            through = line.next()
-            line.next("(")
-            line.next(self.index)
-            self.references.append(("index", through, ("plain", offset(line))))
-            line.next(")")
-            form = ("through", offset(line))
+            form = self.through(line, 2)
         else:
             form = ("scalar", scalar(line))
         line.next(")")
