@@ -6,5 +6,5 @@ abbrev pub invariant-loop-execution : goal.invariant-loop-execution
 invariant-loop-execution l = record {
   told : l.count + count_from l.execution l.known l.checked l.rule (drop l.execution l.steps)
       ≡ count_from 0 l.initial.known l.checked l.rule l.steps;
-  few : l.count ≤ 13 * l.execution;
+  few : l.count ≤ 17 * l.execution;
 }
