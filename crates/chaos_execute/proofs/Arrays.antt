@@ -1,5 +1,5 @@
 -- A block joined array by array is the block joined iteration by iteration.
-use Rattle.std.proofs.Common.{◌≡◌, ◌≢◌, ℕ, zero, suc, ◌+◌, ◌<◌, ℤ, pos, Bool, true, false, cond, ◌==◌, List, [], ◌∷◌, ◌++◌, length, drop, get_or}
+use Rattle.std.proofs.Common.{◌≡◌, ◌≢◌, ℕ, suc, ◌+◌, ◌<◌, ℤ, pos, Bool, true, false, cond, ◌==◌, List, [], ◌∷◌, ◌++◌, length, drop, get_or}
 use Rattle.std.proofs.Common.{Option, Some, None, refl, ap, sym, subst, ◌∙◌, arith, inl, inr, length-set, append_assoc, ◌≤◌}
 use Rattle.std.proofs.lemmas.List.{drop_more}
 use Rattle.std.specs.Prelude.{nat_lt, slice_get, slice_set, fold, option_to_list}
@@ -31,7 +31,8 @@ module _ (operators : List (Option Combine)) (pieces ghosts : List (List ℤ)) (
 
   -- the array's rows after one more value for a place of an array
   row_same : (rows : List (List (ℤ × ℤ))) (other at : ℕ) (value : ℤ) → other ≡ array → array < length rows
-      → list_at (joined_row operators rows other at value) array ≡ joined_at (operator_at operators array) (list_at rows array) (pos at) value
+      → list_at (joined_row operators rows other at value) array ≡ joined_at (operator_at operators array) (list_at rows array) (pos at)
+      value
   row_same rows other at value same h =
       at_set_same rows other array (joined_at (operator_at operators other) (list_at rows other) (pos at) value) [] same h
       ∙ ap (λ a. joined_at (operator_at operators a) (list_at rows a) (pos at) value) same
@@ -331,7 +332,8 @@ module _ (operators : List (Option Combine)) (pieces ghosts : List (List ℤ)) (
       ∙ ap (λ n. array_block (operator_at operators k) n slots columns width targets 0 iterations row (rows_both now k)) f
       ∙ ap (λ n. array_block (operator_at operators k) (length (list_at pieces k)) n columns width targets 0 iterations row
       (rows_both now k)) g
-      ∙ ap (λ ts. array_block (operator_at operators k) (length (list_at pieces k)) (length (list_at ghosts k)) columns width ts 0 iterations
+      ∙ ap (λ ts. array_block (operator_at operators k) (length (list_at pieces k)) (length (list_at ghosts k)) columns width ts 0
+      iterations
       row (rows_both now k)) t
       ∙ ap (array_block (operator_at operators k) (length (list_at pieces k)) (length (list_at ghosts k)) columns width
       (targets_from seats k 0 body) 0 iterations row) (j.left k (omega arith)) in

@@ -1,5 +1,6 @@
 -- Columns: lists of a value at each iteration of a block.
-use Rattle.std.proofs.Common.{◌≡◌, ℕ, suc, ◌+◌, ◌<◌, ℤ, pos, List, [], ◌∷◌, ◌++◌, length, map, take, drop, get_or, set, refl, ap, sym, ◌∙◌, arith, append_assoc}
+use Rattle.std.proofs.Common.{◌≡◌, ℕ, suc, ◌+◌, ◌<◌, ℤ, pos, List, [], ◌∷◌, ◌++◌, length, map, take, drop, get_or, set, refl, ap, sym}
+use Rattle.std.proofs.Common.{◌∙◌, arith, append_assoc}
 use Rattle.std.specs.Prelude.{slice_get, Option, Some, None}
 use Rattle.std.specs.Option.{option_map}
 use Rattle.std.proofs.lemmas.List.{drop_more, take_more_set, drop-set-lt}
@@ -14,7 +15,8 @@ use Rattle.chaos_execute.specs.Columns.{over, paired, read_column, value_in, sea
 use Rattle.chaos_execute.specs.Seats.{seat_at, located_by, value_from}
 use Rattle.chaos_execute.proofs.References.{found_at}
 
-pub over_constant : (v : ℤ) (width : ℕ) (iterations : List ℤ) (row : List LocalRef) → over (λ i r. v) width iterations row ≡ map (λ i. v) iterations
+pub over_constant : (v : ℤ) (width : ℕ) (iterations : List ℤ) (row : List LocalRef) → over (λ i r. v) width iterations row
+    ≡ map (λ i. v) iterations
 over_constant v width [] row = refl
 over_constant v width (i ∷ iterations) row = ap (λ l. v ∷ l) (over_constant v width iterations (drop width row))
 
@@ -28,22 +30,28 @@ over_map f g width [] row = refl
 over_map f g width (i ∷ iterations) row = ap (λ l. g (f i row) ∷ l) (over_map f g width iterations (drop width row))
 
 pub over_paired : (op : Arith) (f g : ℤ → List LocalRef → ℤ) (width : ℕ) (iterations : List ℤ) (row : List LocalRef)
-    → paired op (over f width iterations row) (over g width iterations row) ≡ over (λ i r. wrapped (exactly op (f i r) (g i r))) width iterations row
+    → paired op (over f width iterations row) (over g width iterations row) ≡ over (λ i r. wrapped (exactly op (f i r) (g i r))) width
+    iterations row
 over_paired op f g width [] row = refl
-over_paired op f g width (i ∷ iterations) row = ap (λ l. wrapped (exactly op (f i row) (g i row)) ∷ l) (over_paired op f g width iterations (drop width row))
+over_paired op f g width (i ∷ iterations) row = ap (λ l. wrapped (exactly op (f i row) (g i row)) ∷ l)
+    (over_paired op f g width iterations (drop width row))
 
-pub over_same : {A : Type 0} (f g : ℤ → List LocalRef → A) (width : ℕ) → ((i : ℤ) (r : List LocalRef) → f i r ≡ g i r) → (iterations : List ℤ) (row : List LocalRef)
+pub over_same : {A : Type 0} (f g : ℤ → List LocalRef → A) (width : ℕ) → ((i : ℤ) (r : List LocalRef) → f i r ≡ g i r)
+    → (iterations : List ℤ) (row : List LocalRef)
     → over f width iterations row ≡ over g width iterations row
 over_same f g width h [] row = refl
 over_same f g width h (i ∷ iterations) row =
-    ap (λ x. x ∷ over f width iterations (drop width row)) (h i row) ∙ ap (λ l. g i row ∷ l) (over_same f g width h iterations (drop width row))
+    ap (λ x. x ∷ over f width iterations (drop width row)) (h i row)
+    ∙ ap (λ l. g i row ∷ l) (over_same f g width h iterations (drop width row))
 
-pub length_over : {A : Type 0} (f : ℤ → List LocalRef → A) (width : ℕ) (iterations : List ℤ) (row : List LocalRef) → length (over f width iterations row) ≡ length iterations
+pub length_over : {A : Type 0} (f : ℤ → List LocalRef → A) (width : ℕ) (iterations : List ℤ) (row : List LocalRef)
+    → length (over f width iterations row) ≡ length iterations
 length_over f width [] row = refl
 length_over f width (i ∷ iterations) row = ap suc (length_over f width iterations (drop width row))
 
 -- one more iteration of a block
-pub over_more : {A : Type 0} (f : ℤ → List LocalRef → A) (width : ℕ) (iterations : List ℤ) (at : ℕ) (d : ℤ) (row left : List LocalRef) (before after all : List A) → at < length iterations
+pub over_more : {A : Type 0} (f : ℤ → List LocalRef → A) (width : ℕ) (iterations : List ℤ) (at : ℕ) (d : ℤ) (row left : List LocalRef)
+    (before after all : List A) → at < length iterations
     → before ++ over f width (drop at iterations) row ≡ all → after ≡ before ++ f (get_or iterations at d) row ∷ [] → left ≡ drop width row
     → after ++ over f width (drop (at + 1) iterations) left ≡ all
 over_more f width iterations at d row left before after all h invariant pushed moved =
@@ -94,7 +102,8 @@ seated_is pieces ghosts seats seat number width e iterations row = over_same _ _
 
 -- without a seat 0 is read
 pub unseated_is : (pieces ghosts : List (List ℤ)) (seats : List Seat) (number width : ℕ) → seat_at seats number ≡ None
-    → (iterations : List ℤ) (row : List LocalRef) → map (λ i. pos 0) iterations ≡ read_column pieces ghosts seats width iterations row number
+    → (iterations : List ℤ) (row : List LocalRef) → map (λ i. pos 0) iterations ≡ read_column pieces ghosts seats width iterations row
+    number
 unseated_is pieces ghosts seats number width e iterations row =
     sym (over_constant (pos 0) width iterations row)
     ∙ over_same _ _ width (λ i r. ap (λ s. value_from pieces ghosts (located_by r s)) (sym e)) iterations row

@@ -1,5 +1,6 @@
 -- Values joined by the numbers of their places.
-use Rattle.std.proofs.Common.{◌≡◌, ◌≢◌, ℕ, zero, suc, ◌<◌, ◌≤◌, ◌⊎◌, ℤ, pos, Bool, true, false, cond, List, [], ◌∷◌, ◌++◌, length, length-drop, take, drop, get_or, set, ◌+◌, ◌*◌, ◌/◌}
+use Rattle.std.proofs.Common.{◌≡◌, ◌≢◌, ℕ, zero, suc, ◌<◌, ◌≤◌, ◌⊎◌, ℤ, pos, Bool, true, false, cond, List, [], ◌∷◌, ◌++◌, length}
+use Rattle.std.proofs.Common.{length-drop, take, drop, get_or, set, ◌+◌, ◌*◌, ◌/◌}
 use Rattle.std.proofs.Common.{Option, Some, None, refl, ap, sym, subst, ◌∙◌, arith, inl, inr}
 use Rattle.std.specs.Prelude.{nat_lt, slice_get, fold}
 use Rattle.std.proofs.lemmas.List.{get_or_default, length_push}
@@ -211,7 +212,8 @@ numbers_even [] even = refl
 numbers_even (p ∷ []) even = absurd (omega (arith, even))
 numbers_even (p ∷ v ∷ rows) even = ap (λ more. p ∷ v ∷ more) (numbers_even rows (omega (arith, even)))
 
-pub numbers_whole : (rows after : List ℤ) (half : ℕ) → half ≡ length rows / 2 → after ≡ take (2 * half) rows → after ≡ rows_of (rows_at rows)
+pub numbers_whole : (rows after : List ℤ) (half : ℕ) → half ≡ length rows / 2 → after ≡ take (2 * half) rows → after
+    ≡ rows_of (rows_at rows)
 numbers_whole rows after half h e =
     let count : half ≡ length (places_at rows) = places_half rows half h in
     let whole = whole_by rows (2 * half) (omega (arith, count)) in
@@ -245,7 +247,8 @@ is_new table rows place n e number f =
     counted_none (length (places_at rows)) (slice_get table place) number e (n.known.found number place f)
     (within (places_at rows) number (pos place) f)
 
-pub number_below : (rows : List ℤ) (table : List ℕ) (place number : ℕ) → counted (length (places_at rows)) (slice_get table place) ≡ Some number
+pub number_below : (rows : List ℤ) (table : List ℕ) (place number : ℕ) → counted (length (places_at rows)) (slice_get table place)
+    ≡ Some number
     → number < length (places_at rows)
 number_below rows table place number e = (counted_some (length (places_at rows)) number (slice_get table place) e).1
 
@@ -281,7 +284,8 @@ module _ (rows : List ℤ) (half : ℕ) (h : half ≡ length rows / 2) where
   pub odd_numbered : (table : List ℕ) (after : List ℤ) (place : ℤ) → IsNumbered table rows → after ≡ take (2 * half) rows ++ place ∷ []
       → IsNumbered table after
   odd_numbered table after place n e =
-      same_places table rows after n (ap places_at e ∙ places_odd (take (2 * half) rows) place whole_rows.even ∙ whole_rows.places_are_those)
+      same_places table rows after n (ap places_at e ∙ places_odd (take (2 * half) rows) place whole_rows.even
+      ∙ whole_rows.places_are_those)
 
   pub added_numbered : (table : List ℕ) (after : List ℤ) (place : ℕ) (value : ℤ) → IsNumbered table rows → IsNewIn (places_at rows) place
       → place < length table → half < no_number → after ≡ take (2 * half) rows ++ pos place ∷ value ∷ []

@@ -1,11 +1,12 @@
 -- The values of a block joined array by array: those of an array in the order of iterations and statements.
-use Rattle.std.specs.Prelude.{◌≡◌, ℕ, ◌+◌, nat_lt, ◌==◌, ℤ, pos, if◌then◌else◌, List, [], ◌∷◌, ◌++◌, length, drop, fold, slice_get, Option, Some, None}
+use Rattle.std.specs.Prelude.{◌≡◌, ℕ, ◌+◌, nat_lt, ◌==◌, ℤ, pos, if◌then◌else◌, List, [], ◌∷◌, ◌++◌, length, drop, fold, slice_get}
+use Rattle.std.specs.Prelude.{Option, Some, None}
 use Rattle.std.specs.Prelude.{option_to_list}
 use Rattle.fd_words.specs.Lists.{list_at}
 use Rattle.fd_words.specs.declared.combine.Combine.{Combine}
 use Rattle.fd_program.specs.Loops.{target_of}
 use Rattle.fd_program.specs.declared.body.CheckedBody.{CheckedBody}
-use Rattle.chaos_move.specs.Moves.{operator_at, value_at}
+use Rattle.chaos_move.specs.Moves.{value_at}
 use Rattle.chaos_sched.specs.declared.local_ref.LocalRef.{LocalRef}
 use Rattle.chaos_sched.specs.declared.local_ref.LocalRef.TheVariants.{Here, Ghost}
 use Rattle.chaos_execute.specs.declared.joining.Joining.{Joining}

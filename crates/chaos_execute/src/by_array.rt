@@ -1,40 +1,39 @@
 ghost use Rattle.std.specs.Prelude.{◌≡◌, ◌<◌, ◌^◌, fold, slice_get, OnOk, Some};
 ghost use Rattle.chaos_execute.specs.ByArray.{array_block, placed, target_joined};
 
-use crate::iterate::behind;
+use crate::block::{Block, behind};
 use crate::rows::Rows;
 use crate::targets::Target;
 use chaos_sched::LocalRef;
 use fd_words::{Combine, Memory, NumberLists};
 
-/// An array, as the values of a block are joined to its places: the operator that reduces into it, how
-/// many places the node has of it, and how many ghosts.
+/// An array, as the values in the columns of a block are joined to its places: the operator that reduces
+/// into it, how many places the node has of it, and how many ghosts.
 #[derive(Clone, Copy)]
-pub struct Joined {
+pub struct Joined<'a> {
     pub operator: Option<Combine>,
     pub own: u64,
     pub slots: u64,
+    pub columns: &'a NumberLists,
 }
 
 /// Joins the values of a block to an array's own places and ghosts.
 pub fn join_array(
     here: &mut Rows,
     ghosts: &mut Rows,
-    array: Joined,
-    columns: &NumberLists,
-    width: u64,
+    array: &Joined,
     targets: &[Target],
-    iterations: &[i64],
-    row: &[LocalRef],
+    block: &Block,
 ) -> Result<(), Memory>
-    requires { array.own < 2 ^ 63 }
-    ensures { OnOk result ((here.new, ghosts.new) ≡ array_block array.operator array.own array.slots columns.now width targets.now 0 iterations.now row.now (here.old, ghosts.old)) }
+    requires { array.now.own < 2 ^ 63 }
+    ensures { OnOk result ((here.new, ghosts.new) ≡ array_block array.now.operator array.now.own array.now.slots array.now.columns.now
+        block.now.width targets.now 0 block.now.iterations.now block.now.row.now (here.old, ghosts.old)) }
 {
     if !targets.is_empty() {
-        let mut left = row;
-        for at in 0..iterations.len() {
-            join_targets(here, ghosts, array, columns, targets, at as u64, left)?;
-            left = behind(left, width);
+        let mut left = block.row;
+        for at in 0..block.iterations.len() {
+            join_targets(here, ghosts, array, targets, at as u64, left)?;
+            left = behind(left, block.width);
         }
     }
     Ok(())
@@ -43,17 +42,17 @@ pub fn join_array(
 fn join_targets(
     here: &mut Rows,
     ghosts: &mut Rows,
-    array: Joined,
-    columns: &NumberLists,
+    array: &Joined,
     targets: &[Target],
     at: u64,
     row: &[LocalRef],
 ) -> Result<(), Memory>
-    requires { array.own < 2 ^ 63 }
-    ensures { OnOk result ((here.new, ghosts.new) ≡ fold (target_joined array.operator array.own array.slots columns.now at row.now) (here.old, ghosts.old) targets.now) }
+    requires { array.now.own < 2 ^ 63 }
+    ensures { OnOk result ((here.new, ghosts.new) ≡ fold (target_joined array.now.operator array.now.own array.now.slots
+        array.now.columns.now at row.now) (here.old, ghosts.old) targets.now) }
 {
     for target in targets {
-        let value = columns.value_at(target.column, at);
+        let value = array.columns.value_at(target.column, at);
         join_one(here, ghosts, array, row, target.at, value)?;
     }
     Ok(())
@@ -62,13 +61,14 @@ fn join_targets(
 fn join_one(
     here: &mut Rows,
     ghosts: &mut Rows,
-    array: Joined,
+    array: &Joined,
     row: &[LocalRef],
     at: u64,
     value: i64,
 ) -> Result<(), Memory>
-    requires { array.own < 2 ^ 63 }
-    ensures { OnOk result ((here.new, ghosts.new) ≡ placed array.operator array.own array.slots value (slice_get row.now at) (here.old, ghosts.old)) }
+    requires { array.now.own < 2 ^ 63 }
+    ensures { OnOk result ((here.new, ghosts.new) ≡ placed array.now.operator array.now.own array.now.slots value (slice_get row.now at)
+        (here.old, ghosts.old)) }
 {
     match row.get(at as usize) {
         Some(place) => join_place(here, ghosts, array, *place, value),
@@ -79,12 +79,13 @@ fn join_one(
 fn join_place(
     here: &mut Rows,
     ghosts: &mut Rows,
-    array: Joined,
+    array: &Joined,
     place: LocalRef,
     value: i64,
 ) -> Result<(), Memory>
-    requires { array.own < 2 ^ 63 }
-    ensures { OnOk result ((here.new, ghosts.new) ≡ placed array.operator array.own array.slots value (Some place) (here.old, ghosts.old)) }
+    requires { array.now.own < 2 ^ 63 }
+    ensures { OnOk result ((here.new, ghosts.new) ≡ placed array.now.operator array.now.own array.now.slots value (Some place)
+        (here.old, ghosts.old)) }
 {
     match place {
         LocalRef::Here(local) => {

@@ -4,12 +4,22 @@ ghost use Rattle.fd_words.specs.Value.{wrapped};
 ghost use Rattle.fd_words.specs.Lists.{list_at};
 ghost use Rattle.chaos_execute.specs.Columns.{column_of, paired, read_column as read_column_of, seated_column, value_in};
 
-use crate::iterate::behind;
+use crate::block::{Block, behind};
 use crate::pool::Pool;
 use crate::seat::{Seat, find_seat};
 use chaos_sched::LocalRef;
 use fd_program::CheckedExpr;
 use fd_words::{Arith, Memory, NumberLists, Numbers, negated};
+
+/// What expressions read: the node's pieces and ghosts, through the seats of references, and the numbers
+/// that the turn gives.
+#[derive(Clone, Copy)]
+pub struct Sources<'a> {
+    pub pieces: &'a NumberLists,
+    pub ghosts: &'a NumberLists,
+    pub terms: &'a Numbers,
+    pub seats: &'a [Seat],
+}
 
 fn term(terms: &Numbers, place: u32) -> i64
     ensures { result ≡ number_at terms.now place }
@@ -38,28 +48,23 @@ fn copied(iterations: &[i64], pool: &mut Pool) -> Result<Vec<i64>, Memory>
 
 /// What a reference reads at each iteration of a block.
 fn read_column(
-    pieces: &NumberLists,
-    ghosts: &NumberLists,
-    seats: &[Seat],
-    width: u64,
-    iterations: &[i64],
-    row: &[LocalRef],
+    sources: &Sources,
+    block: &Block,
     number: u32,
     pool: &mut Pool,
 ) -> Result<Vec<i64>, Memory>
-    ensures { IfOk result (λ c. c.items ≡ read_column_of pieces.now ghosts.now seats.now width iterations.now row.now number) }
+    ensures { IfOk result (λ c. c.items ≡ read_column_of sources.now.pieces.now sources.now.ghosts.now sources.now.seats.now
+        block.now.width block.now.iterations.now block.now.row.now number) }
 {
-    match find_seat(seats, number) {
+    match find_seat(sources.seats, number) {
         Some(seat) => read_seated(
-            numbers_of(pieces, seat.array),
-            numbers_of(ghosts, seat.array),
+            numbers_of(sources.pieces, seat.array),
+            numbers_of(sources.ghosts, seat.array),
             seat.at,
-            width,
-            iterations,
-            row,
+            block,
             pool,
         ),
-        None => filled(&0, iterations, pool),
+        None => filled(&0, block.iterations, pool),
     }
 }
 
@@ -67,18 +72,16 @@ fn read_seated(
     part: &[i64],
     ghosts: &[i64],
     at: u64,
-    width: u64,
-    iterations: &[i64],
-    row: &[LocalRef],
+    block: &Block,
     pool: &mut Pool,
 ) -> Result<Vec<i64>, Memory>
-    ensures { IfOk result (λ c. c.items ≡ seated_column part.now ghosts.now at width iterations.now row.now) }
+    ensures { IfOk result (λ c. c.items ≡ seated_column part.now ghosts.now at block.now.width block.now.iterations.now block.now.row.now) }
 {
     let mut column = pool.lend();
-    let mut left = row;
-    for _i in iterations {
+    let mut left = block.row;
+    for _i in block.iterations {
         column.push(read_at(part, ghosts, left, at))?;
-        left = behind(left, width);
+        left = behind(left, block.width);
     }
     Ok(column)
 }
@@ -144,68 +147,32 @@ fn combined_all(op: Arith, left: Vec<i64>, right: &[i64]) -> Vec<i64>
     left
 }
 
-/// The values of an expression at each iteration of a block; `row` has the references from its first
-/// iteration on.
+/// The values of an expression at each iteration of a block.
 pub fn column(
     expr: &CheckedExpr,
-    pieces: &NumberLists,
-    ghosts: &NumberLists,
-    terms: &Numbers,
-    seats: &[Seat],
-    width: u64,
-    iterations: &[i64],
-    row: &[LocalRef],
+    sources: &Sources,
+    block: &Block,
     pool: &mut Pool,
 ) -> Result<Vec<i64>, Memory>
-    ensures { IfOk result (λ c. c.items ≡ column_of pieces.now ghosts.now terms.now seats.now width iterations.now row.now expr.now) }
+    ensures { IfOk result (λ c. c.items ≡ column_of sources.now.pieces.now sources.now.ghosts.now sources.now.terms.now
+        sources.now.seats.now
+        block.now.width block.now.iterations.now block.now.row.now expr.now) }
 {
     match expr {
-        CheckedExpr::Number(value) => filled(value, iterations, pool),
-        CheckedExpr::Index => copied(iterations, pool),
+        CheckedExpr::Number(value) => filled(value, block.iterations, pool),
+        CheckedExpr::Index => copied(block.iterations, pool),
         CheckedExpr::Term(place) => {
-            let value = term(terms, *place);
-            filled(&value, iterations, pool)
+            let value = term(sources.terms, *place);
+            filled(&value, block.iterations, pool)
         }
-        CheckedExpr::Read(number) => read_column(
-            pieces, ghosts, seats, width, iterations, row, *number, pool,
-        ),
+        CheckedExpr::Read(number) => read_column(sources, block, *number, pool),
         CheckedExpr::Negate(inner) => {
-            let out = column(
-                inner.get(),
-                pieces,
-                ghosts,
-                terms,
-                seats,
-                width,
-                iterations,
-                row,
-                pool,
-            )?;
+            let out = column(inner.get(), sources, block, pool)?;
             Ok(negated_all(out))
         }
         CheckedExpr::Binary { op, left, right } => {
-            let out = column(
-                left.get(),
-                pieces,
-                ghosts,
-                terms,
-                seats,
-                width,
-                iterations,
-                row,
-                pool,
-            )?;
-            let other = column(
-                right.get(),
-                pieces,
-                ghosts,
-                terms,
-                seats,
-                width,
-                iterations,
-                row,
-                pool,
-            )?;
+            let out = column(left.get(), sources, block, pool)?;
+            let other = column(right.get(), sources, block, pool)?;
             let both = combined_all(*op, out, other.as_slice());
             pool.take_back(other)?;
             Ok(both)

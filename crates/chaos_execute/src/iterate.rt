@@ -1,11 +1,12 @@
-ghost use Rattle.std.specs.Prelude.{◌≡◌, ◌*◌, drop, length, IfOk, OnOk};
+ghost use Rattle.std.specs.Prelude.{◌≡◌, IfOk, OnOk};
 ghost use Rattle.chaos_execute.specs.Blocks.{columns_of, joined_block};
 ghost use Rattle.chaos_execute.specs.ByArray.{HasArrays};
 ghost use Rattle.chaos_execute.specs.Pending.{after_iterations, pending_of};
 
 use crate::PendingValues;
+use crate::block::{Block, behind_block};
 use crate::by_array::Joined;
-use crate::columns::column;
+use crate::columns::{Sources, column};
 use crate::joining::Joining;
 use crate::place::count;
 use crate::pool::Pool;
@@ -73,7 +74,9 @@ struct Iterations<'a> {
 impl Iterations<'_> {
     fn run(&self, alloc: Global, prepared: &Prepared, joining: &mut Joining) -> Result<(), Memory>
         requires { HasArrays self.now.arrays joining.old }
-        ensures { OnOk result (joining.new ≡ after_iterations self.now.operators.now self.now.pieces.now self.now.ghosts.now self.now.terms.now self.now.seats.now self.now.width self.now.body.now prepared.now.iterations prepared.now.references joining.old) }
+        ensures { OnOk result (joining.new ≡ after_iterations self.now.operators.now self.now.pieces.now self.now.ghosts.now
+            self.now.terms.now self.now.seats.now self.now.width self.now.body.now prepared.now.iterations prepared.now.references
+            joining.old) }
     {
         let mut pool = Pool::new(alloc);
         let mut rest = prepared.iterations.as_slice();
@@ -102,38 +105,35 @@ impl Iterations<'_> {
         joining: &mut Joining,
     ) -> Result<(), Memory>
         requires { HasArrays self.now.arrays joining.old }
-        ensures joined { OnOk result (joining.new ≡ after_iterations self.now.operators.now self.now.pieces.now self.now.ghosts.now self.now.terms.now self.now.seats.now self.now.width self.now.body.now iterations.now row.now joining.old) }
+        ensures joined { OnOk result (joining.new ≡ after_iterations self.now.operators.now self.now.pieces.now self.now.ghosts.now
+            self.now.terms.now self.now.seats.now self.now.width self.now.body.now iterations.now row.now joining.old) }
         ensures arrays { OnOk result (HasArrays self.now.arrays joining.new) }
     {
-        let columns = self.columns(alloc, iterations, row, pool)?;
-        self.join_block(alloc, &columns, iterations, row, joining)?;
+        let block = Block {
+            iterations,
+            row,
+            width: self.width,
+        };
+        let columns = self.columns(alloc, &block, pool)?;
+        self.join_block(alloc, &columns, &block, joining)?;
         give_back(columns, pool)?;
         Ok(())
     }
 
     /// A column for each statement.
-    fn columns(
-        &self,
-        alloc: Global,
-        iterations: &[i64],
-        row: &[LocalRef],
-        pool: &mut Pool,
-    ) -> Result<NumberLists, Memory>
-        ensures { IfOk result (λ columns. columns ≡ columns_of self.now.pieces.now self.now.ghosts.now self.now.terms.now self.now.seats.now self.now.width iterations.now row.now self.now.body.now) }
+    fn columns(&self, alloc: Global, block: &Block, pool: &mut Pool) -> Result<NumberLists, Memory>
+        ensures { IfOk result (λ columns. columns ≡ columns_of self.now.pieces.now self.now.ghosts.now self.now.terms.now self.now.seats.now
+            block.now.width block.now.iterations.now block.now.row.now self.now.body.now) }
     {
+        let sources = Sources {
+            pieces: self.pieces,
+            ghosts: self.ghosts,
+            terms: self.terms,
+            seats: self.seats,
+        };
         let mut columns = NumberLists::new(alloc);
         for statement in self.body {
-            let values = column(
-                expression(statement),
-                self.pieces,
-                self.ghosts,
-                self.terms,
-                self.seats,
-                self.width,
-                iterations,
-                row,
-                pool,
-            )?;
+            let values = column(expression(statement), &sources, block, pool)?;
             columns.push(Numbers::from_vec(values))?;
         }
         Ok(columns)
@@ -145,12 +145,12 @@ impl Iterations<'_> {
         &self,
         alloc: Global,
         columns: &NumberLists,
-        iterations: &[i64],
-        row: &[LocalRef],
+        block: &Block,
         joining: &mut Joining,
     ) -> Result<(), Memory>
         requires { HasArrays self.now.arrays joining.old }
-        ensures joined { OnOk result (joining.new ≡ joined_block self.now.operators.now self.now.pieces.now self.now.ghosts.now self.now.seats.now self.now.width self.now.body.now columns.now 0 iterations.now row.now joining.old) }
+        ensures joined { OnOk result (joining.new ≡ joined_block self.now.operators.now self.now.pieces.now self.now.ghosts.now
+            self.now.seats.now block.now.width self.now.body.now columns.now 0 block.now.iterations.now block.now.row.now joining.old) }
         ensures arrays { OnOk result (HasArrays self.now.arrays joining.new) }
     {
         for number in 0..self.arrays {
@@ -160,17 +160,15 @@ impl Iterations<'_> {
                 operator: operator_of(self.operators, array),
                 own: count(self.pieces, array),
                 slots: count(self.ghosts, array),
+                columns,
             };
             join_array_of(
                 &mut joining.here,
                 &mut joining.ghosts,
                 number,
-                joined,
-                columns,
-                self.width,
+                &joined,
                 targets.as_slice(),
-                iterations,
-                row,
+                block,
             )?;
         }
         Ok(())
@@ -186,26 +184,4 @@ fn give_back(columns: NumberLists, pool: &mut Pool) -> Result<(), Memory> {
         pool.take_back(list.into_vec())?;
     }
     Ok(())
-}
-
-/// The references behind a block.
-fn behind_block<'a>(row: &'a [LocalRef], iterations: &[i64], width: u64) -> &'a [LocalRef]
-    ensures { result.now ≡ drop (length iterations.now * width) row.now }
-{
-    let mut left = row;
-    for _i in iterations {
-        left = behind(left, width);
-    }
-    left
-}
-
-/// The references behind so many.
-pub fn behind(row: &[LocalRef], width: u64) -> &[LocalRef]
-    ensures { result.now ≡ drop width row.now }
-{
-    if width < row.len() as u64 {
-        &row[width as usize..]
-    } else {
-        &[]
-    }
 }

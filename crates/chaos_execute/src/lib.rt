@@ -4,6 +4,7 @@
 #![tactic(auto)]
 
 mod applying;
+mod block;
 mod by_array;
 mod columns;
 mod gather;

@@ -10,12 +10,14 @@ number_back [] at value = refl
 number_back (x ∷ xs) zero value = refl
 number_back (x ∷ xs) (suc at) value = ap (λ (z : List ℤ). x ∷ z) (number_back xs at value)
 
-pub put_is_back : (lists : List (List ℤ)) (list at : ℕ) (value : ℤ) → put_at (put_at lists list at value) list at (value_at lists list at) ≡ lists
+pub put_is_back : (lists : List (List ℤ)) (list at : ℕ) (value : ℤ) → put_at (put_at lists list at value) list at (value_at lists list at)
+    ≡ lists
 put_is_back [] list at value = refl
 put_is_back (x ∷ xs) zero at value = ap (λ (z : List ℤ). z ∷ xs) (number_back x at value)
 put_is_back (x ∷ xs) (suc list) at value = ap (λ (z : List (List ℤ)). x ∷ z) (put_is_back xs list at value)
 
-pub back_last : (kept : List Kept) (k : Kept) (lists : List (List ℤ)) → taken_back (kept ++ k ∷ []) lists ≡ taken_back kept (put_back k lists)
+pub back_last : (kept : List Kept) (k : Kept) (lists : List (List ℤ)) → taken_back (kept ++ k ∷ []) lists
+    ≡ taken_back kept (put_back k lists)
 back_last [] k lists = refl
 back_last (x ∷ kept) k lists = ap (put_back x) (back_last kept k lists)
 

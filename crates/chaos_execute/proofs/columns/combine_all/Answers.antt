@@ -18,4 +18,5 @@ loop-at-preserved c =
     to_z-of_z w64 c.apply.result fits ∙ c.apply.ensures
     ∙ ap (λ v. wrapped (exactly c.args.op v (to_z w64 (of_z w64 b)))) (to_z-of_z w64 a fits_a)
     ∙ ap (λ v. wrapped (exactly c.args.op a v)) (to_z-of_z w64 b fits_b) in
-    paired_more c.args.op c.loop-at.left c.args.right.now _ _ c.loop-at.at (pos 0) (to_z w64 (of_z w64 c.apply.result)) small there c.loop-at.invariant is refl
+    paired_more c.args.op c.loop-at.left c.args.right.now _ _ c.loop-at.at (pos 0) (to_z w64 (of_z w64 c.apply.result)) small there
+    c.loop-at.invariant is refl

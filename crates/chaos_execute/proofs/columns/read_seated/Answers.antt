@@ -11,9 +11,12 @@ loop-i-preserved c =
     let a = c.args in
     let fits : FitsSigned w64 c.read_at.result = search rules in
     let f = λ (i : ℤ) (r : List LocalRef). value_in a.part.now a.ghosts.now (slice_get r a.at) in
-    let pushed : c.push.new.self.items ≡ c.loop-i.column.items ++ f (get_or a.iterations.now c.loop-i._i-index (pos 0)) c.loop-i.left.now
+    let pushed : c.push.new.self.items ≡ c.loop-i.column.items ++ f (get_or a.block.now.iterations.now c.loop-i._i-index (pos 0))
+    c.loop-i.left.now
     ∷ [] =
     c.in_ok-push.ensures.items ∙ ap (λ v. c.loop-i.column.items ++ v ∷ []) (to_z-of_z w64 c.read_at.result fits ∙ c.read_at.ensures) in
-    over_more f a.width a.iterations.now c.loop-i._i-index (pos 0) c.loop-i.left.now c.behind-left.result.now c.loop-i.column.items
-    c.push.new.self.items (seated_column a.part.now a.ghosts.now a.at a.width a.iterations.now a.row.now) c.loop-i-test.true
+    over_more f a.block.now.width a.block.now.iterations.now c.loop-i._i-index (pos 0) c.loop-i.left.now c.behind-left.result.now
+    c.loop-i.column.items
+    c.push.new.self.items (seated_column a.part.now a.ghosts.now a.at a.block.now.width a.block.now.iterations.now a.block.now.row.now)
+    c.loop-i-test.true
     c.loop-i.invariant pushed c.behind-left.ensures

@@ -1,4 +1,4 @@
-use Rattle.std.proofs.Common.{rules, ◌≡◌, ◌+◌, ◌*◌, length, pos, None, Some, ap, sym, ◌∙◌, subst, FitsSigned, w64, to_z, of_z}
+use Rattle.std.proofs.Common.{rules, ◌≡◌, ◌+◌, ◌*◌, length, pos, None, Some, ap, sym, ◌∙◌, subst, FitsSigned, w64}
 use Rattle.std.specs.Prelude.{◌/◌, slice_get, set}
 use Rattle.std.specs.Result.{OnOk}
 use Rattle.std.proofs.lemmas.Int.{to_z-of_z}

@@ -7,5 +7,6 @@ pub returns-clause-back : goal.returns-clause-back
 returns-clause-back c =
     let s = c.stands_at-kept.ensures in
     ap (λ z. taken_back z c.put.new.lists) c.in_ok-push.ensures.items
-    ∙ write_back c.self.inside.kept.items c.stands_at-kept.result c.args.lists.now c.put.new.lists c.args.list c.args.at _ s.list s.at s.old c.put.ensures
+    ∙ write_back c.self.inside.kept.items c.stands_at-kept.result c.args.lists.now c.put.new.lists c.args.list c.args.at _ s.list s.at s.old
+    c.put.ensures
     ∙ ap (λ z. taken_back z c.args.lists.now) c.self.view_is
