@@ -66,11 +66,19 @@ impl<'a> Phased for Node<'a> {
     }
 
     fn work(&mut self) -> Result<(), Memory> {
-        if self.is_scattering() {
-            return self.end_execution();
+        if !self.is_scattering() {
+            let change = self.change()?;
+            return self.commit(change);
         }
-        let change = self.change()?;
-        self.commit(change)
+        let mut parts = self.take_parts();
+        let mut undo = self.take_undo();
+        match self.end_scatter(&mut parts, &mut undo) {
+            Ok(executed) => self.put_executed(executed, parts, undo),
+            Err(memory) => {
+                self.give_back(parts, undo);
+                Err(memory)
+            }
+        }
     }
 
     ghost use Rattle.plan_run.specs.RowLaws.{rows_meet, rows_fall};

@@ -7,7 +7,7 @@ ghost use Rattle.chaos_entering.specs.Coming.{CanStand, entered_state, face_ente
 ghost use Rattle.chaos_entering.specs.declared.activity.Activity.TheVariants as activity;
 ghost use Rattle.chaos_holdings.specs.Keeping.{prepared_in};
 ghost use Rattle.chaos_move.specs.Undoing.{taken_back};
-ghost use Rattle.chaos_node.specs.Changing.{CanBeMade, ChangesRight, IsMade, change_with, changed_by, executing_in, with_parts};
+ghost use Rattle.chaos_node.specs.Changing.{CanBeMade, ChangesRight, change_with, changed_by, executing_in, with_parts};
 ghost use Rattle.chaos_node.specs.Executions.{count_behind};
 
 use crate::change::{Change, Executed};
@@ -127,7 +127,11 @@ impl<'a> Node<'a> {
     }
 
     /// Ends the phase in which contributions are scattered.
-    fn end_scatter(&self, parts: &mut NumberLists, undo: &mut Undo) -> Result<Executed, Memory>
+    pub(crate) fn end_scatter(
+        &self,
+        parts: &mut NumberLists,
+        undo: &mut Undo,
+    ) -> Result<Executed, Memory>
         requires work { next_of self.now.face ≡ Work }
         requires at { is_some (executing_in self.now.state.at.activity) ≡ true }
         ensures made { IfOk result (λ x. CanBeMade self.now (change_with parts.new x)) }
@@ -141,7 +145,7 @@ impl<'a> Node<'a> {
     }
 
     /// Takes the writes into the parts back, and gives them to the node again.
-    fn give_back(&mut self, parts: NumberLists, undo: Undo)
+    pub(crate) fn give_back(&mut self, parts: NumberLists, undo: Undo)
         ensures { self.new ≡ with_parts self.old (taken_back undo parts) }
     {
         let mut parts = parts;
@@ -152,7 +156,7 @@ impl<'a> Node<'a> {
     }
 
     /// Moves the parts out of the node.
-    fn take_parts(&mut self) -> NumberLists
+    pub(crate) fn take_parts(&mut self) -> NumberLists
         ensures parts { result ≡ self.old.state.holdings.parts }
         ensures rest { self.new ≡ with_parts self.old [] }
     {
@@ -160,7 +164,7 @@ impl<'a> Node<'a> {
     }
 
     /// Moves the stack of writes out of the node, with none on it.
-    fn take_undo(&mut self) -> Undo
+    pub(crate) fn take_undo(&mut self) -> Undo
         ensures none { result ≡ [] }
         ensures same { self.new ≡ self.old }
     {
@@ -184,7 +188,7 @@ impl<'a> Node<'a> {
     }
 
     /// Puts what an execution has changed in place; where memory is wanting its writes are taken back.
-    fn put_executed(
+    pub(crate) fn put_executed(
         &mut self,
         executed: Executed,
         parts: NumberLists,
@@ -209,24 +213,6 @@ impl<'a> Node<'a> {
             }
             Err(memory) => {
                 discard(executed);
-                self.give_back(parts, undo);
-                Err(memory)
-            }
-        }
-    }
-
-    /// Ends an execution: the parts are changed in place; where memory is wanting nothing has changed.
-    pub(crate) fn end_execution(&mut self) -> Result<(), Memory>
-        requires work { next_of self.old.face ≡ Work }
-        requires at { is_some (executing_in self.old.state.at.activity) ≡ true }
-        ensures ok { OnOk result (IsMade self.old self.new) }
-        ensures err { OnErr result (self.new ≡ self.old) }
-    {
-        let mut parts = self.take_parts();
-        let mut undo = self.take_undo();
-        match self.end_scatter(&mut parts, &mut undo) {
-            Ok(executed) => self.put_executed(executed, parts, undo),
-            Err(memory) => {
                 self.give_back(parts, undo);
                 Err(memory)
             }
