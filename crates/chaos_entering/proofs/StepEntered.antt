@@ -64,6 +64,7 @@ use Rattle.chaos_entering.specs.declared.ahead.Ahead.{Ahead}
 use Rattle.chaos_entering.specs.Coming.{CanStand, EntersStep, FindsNone, FindsStep, IsBehindSteps, IsComing, IsHere, ComesNext, EntersAs}
 use Rattle.chaos_entering.specs.Coming.{KnowsLengths}
 use Rattle.chaos_entering.specs.Coming.{entered_state, noted_if}
+use Rattle.chaos_entering.specs.Enters.{EntersGather, EntersInspection, EntersMove}
 use Rattle.chaos_holdings.specs.Keeping.{no_kept, prepared_by, prepared_in}
 use Rattle.chaos_entering.specs.Standing.{GoesOnInspecting, GoesOnMoving, HasCome, HoldsAt, KnowsInStep, KnowsBehind, session_in}
 use Rattle.chaos_entering.specs.State.{NodeState, held_of}
@@ -349,18 +350,6 @@ same_state st e number site plain execution place =
     ap (entered_with (state_noted st number site) e) plain ∙ ap (λ n. noted_at st e n site) (sym execution)
     ∙ ap (noted_at st e e.at.execution) (sym place)
 
--- what the entered phase of an inspection is told to be
-abbrev pub EntersInspection : Session → ℕ → ℕ → ℕ → Inspection → List (List ℤ) → List (Option Pages) → List ℕ → ℕ → Entered → Type 0
-EntersInspection session me number site i parts pages sizes left e =
-    (plan : RunPlan) (past rest : List Step) (turn : LoopTurn) (present : LoopPhase) (st : NodeState) → IsRunPlan plan
-    → session ≡ session_in plan → number ≡ length past
-    → IsComing plan past (Forall site turn) rest (stage.InLoop present) (stages_behind (loop_at (scene_in plan) past site turn) present)
-    me left st
-    → GoesOnInspecting plan past site turn present me st.holdings.tables i → parts ≡ st.holdings.parts → pages ≡ st.holdings.pages
-    → KnowsLengths plan past (Forall site turn) (stage.InLoop present) me sizes
-    → EntersAs plan (left_in plan past (Forall site turn) rest
-    (stage.InLoop present ∷ stages_behind (loop_at (scene_in plan) past site turn) present)) me e st
-
 -- a new inspection of this loop
 pub record IsNew (i : Inspection) (f : LoopFacts) (me : ℕ) : Type 0 where
   pub facts : i.facts ≡ f
@@ -438,16 +427,6 @@ begin_is_right session b pages number site f left i e new placed enters plan pas
     facts_same s past step site loop found = ap (facts_of_step s past) (sym loop.is ∙ found.is)
 
 -- ---- an execution by what is kept
-
-abbrev pub EntersGather : Session → ℕ → ℕ → ℕ → Prepared → List (List ℤ) → ℕ → Entered → Type 0
-EntersGather session me number site prepared parts left e =
-    (plan : RunPlan) (past rest : List Step) (turn : LoopTurn) (st : NodeState) → IsRunPlan plan → session ≡ session_in plan
-    → number ≡ length past
-    → IsComing plan past (Forall site turn) rest (stage.InLoop phase.Gather) (stage.InLoop phase.Scatter ∷ []) me left st
-    → is_empty_turn turn ≡ false → prepared_in st.holdings.kept site ≡ Some prepared
-    → CanExecute (scene_in plan) past site turn me st.holdings.tables prepared
-    → parts ≡ st.holdings.parts
-    → EntersAs plan (left_in plan past (Forall site turn) rest (stage.InLoop phase.Gather ∷ stage.InLoop phase.Scatter ∷ [])) me e st
 
 -- what is kept is there
 pub record IsReused (plan : RunPlan) (past rest : List Step) (step : Step) (b : Between) (site left : ℕ) (st : NodeState) : Type 0 where
@@ -528,15 +507,6 @@ pub begun_as : (a : Ahead) (b kind : Begun) (r : Result Entered Memory) → b �
     → IfOk r (EntersStep a (λ s past step. IsBegun s past step a.between.now.me kind))
     → IfOk r (EntersStep a (λ s past step. IsBegun s past step a.between.now.me b))
 begun_as a b kind r is h = subst (λ x. IfOk r (EntersStep a (λ s past step. IsBegun s past step a.between.now.me x))) (sym is) h
-
-abbrev pub EntersMove : Session → ℕ → ℕ → Moving → List ℕ → ℕ → Entered → Type 0
-EntersMove session me number m sizes left e =
-    (plan : RunPlan) (past rest : List Step) (form : StepForm) (now : Stage) (more : List Stage) (st : NodeState) → IsRunPlan plan
-    → session ≡ session_in plan
-    → number ≡ length past → IsComing plan past (Distribute m.share.decomposition form) rest now more me left st
-    → GoesOnMoving plan past m.share.decomposition form now more me m
-    → KnowsLengths plan past (Distribute m.share.decomposition form) now me sizes
-    → EntersAs plan (left_in plan past (Distribute m.share.decomposition form) rest (now ∷ more)) me e st
 
 pub move_begins : (session : Session) (me number : ℕ) (m : Moving) (left : ℕ) (e : Entered) → EntersMove session me number m [] left e
     → (plan : RunPlan) (past rest : List Step) (step : Step) (st : NodeState) → IsRunPlan plan → session ≡ session_in plan

@@ -1,13 +1,9 @@
-ghost use Rattle.std.specs.Prelude.{◌≡◌, ℕ, ℤ, ◌+◌, ◌≤◌, ◌<◌, ◌^◌, ◌∷◌, [], List, drop, false, length, IfOk};
-ghost use Rattle.fd_program.specs.Reports.{completed_of};
+ghost use Rattle.std.specs.Prelude.{◌≡◌, ℕ, ℤ, ◌+◌, ◌≤◌, ◌<◌, ◌^◌, ◌∷◌, [], List, false, length, IfOk};
 ghost use Rattle.fd_program.specs.declared.trace.Step.TheVariants.{Print};
-ghost use Rattle.plan_run.specs.Rows.{IsRunPlan, RunPlan, run_in};
-ghost use Rattle.plan_walk.specs.Places.{outputs_left};
-ghost use Rattle.chaos_entering.specs.Coming.{CanStand, EntersStep, IsBehindSteps, EntersAs};
+ghost use Rattle.chaos_entering.specs.Coming.{CanStand, EntersStep};
 ghost use Rattle.chaos_entering.specs.Entering.{ArePosted, IsRows};
+ghost use Rattle.chaos_entering.specs.Enters.{EntersOutput};
 ghost use Rattle.chaos_print.specs.Printing.{rows_held};
-ghost use Rattle.chaos_entering.specs.Standing.{session_in};
-ghost use Rattle.chaos_entering.specs.State.{NodeState};
 ghost use Rattle.chaos_entering.specs.declared.activity.Activity.TheVariants.{Ended};
 
 use crate::activity::{Activity, At};
@@ -135,10 +131,7 @@ pub fn enter_output(
     requires left { left < 2 ^ 31 }
     ensures made { IfOk result (CanStand me session.now.nodes) }
     ensures falls { IfOk result (λ e. e.left ≤ left) }
-    ensures right { IfOk result (λ e. (plan : RunPlan) (st : NodeState) → IsRunPlan plan → session.now ≡ session_in plan
-        → IsBehindSteps plan number me left st
-        → elements.now ≡ st.holdings.elements → parts.now ≡ st.holdings.parts
-        → EntersAs plan (outputs_left plan (completed_of (run_in plan)) number (drop number plan.checked.outputs)) me e st) }
+    ensures right { IfOk result (EntersOutput session.now me number elements.now parts.now left) }
 {
     let execution = output_execution(session, number);
     match session.checked.outputs.get(number as usize) {

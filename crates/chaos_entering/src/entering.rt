@@ -1,11 +1,7 @@
-ghost use Rattle.std.specs.Prelude.{◌≡◌, ◌≤◌, ◌<◌, ◌^◌, List, length, true, false, IfOk};
-ghost use Rattle.fd_program.specs.declared.trace.Step.{Step as AStep};
+ghost use Rattle.std.specs.Prelude.{◌≡◌, ◌≤◌, ◌<◌, ◌^◌, true, false, IfOk};
 ghost use Rattle.chaos_begin.specs.Begins.{BeginsInspection, BeginsLoop, BeginsMove, IsBegun, IsFit, IsFitBegun, IsSoundBetween};
-ghost use Rattle.plan_run.specs.Rows.{IsRunPlan, RunPlan};
-ghost use Rattle.plan_walk.specs.Places.{left_from};
-ghost use Rattle.chaos_entering.specs.Coming.{CanStand, EntersStep, IsHere, ComesNext, EntersAs};
-ghost use Rattle.chaos_entering.specs.Standing.{session_in};
-ghost use Rattle.chaos_entering.specs.State.{NodeState, held_of};
+ghost use Rattle.chaos_entering.specs.Coming.{CanStand, EntersStep};
+ghost use Rattle.chaos_entering.specs.Enters.{EntersNext};
 
 use crate::ahead::Ahead;
 use crate::enter_prints::{enter_end, enter_output, enter_print};
@@ -121,10 +117,7 @@ pub fn enter_next(
     requires left { left < 2 ^ 31 }
     ensures made { IfOk result (CanStand between.now.me session.now.nodes) }
     ensures falls { IfOk result (λ e. e.left ≤ left) }
-    ensures right { IfOk result (λ e. (plan : RunPlan) (past rest : List AStep) (st : NodeState) → IsRunPlan plan
-        → session.now ≡ session_in plan → from ≡ length past
-        → IsHere plan between.now (held_of st) → pages.now ≡ st.holdings.pages → ComesNext plan past rest between.now.me left st
-        → EntersAs plan (left_from plan past rest) between.now.me e st) }
+    ensures right { IfOk result (EntersNext session.now between.now pages.now from left) }
 {
     match find(alloc, between, &session.trace, from)? {
         Found::Step {

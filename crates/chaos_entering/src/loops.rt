@@ -1,27 +1,11 @@
-ghost use Rattle.std.specs.Prelude.{◌≡◌, ℕ, ◌≤◌, ◌<◌, ◌^◌, ◌∷◌, [], List, Some, false, length, map, IfOk, IfSome};
+ghost use Rattle.std.specs.Prelude.{◌≡◌, ℕ, ◌≤◌, ◌<◌, ◌^◌, List, false, length, map, IfOk, IfSome};
 ghost use Rattle.fd_words.specs.Lists.{list_at};
-ghost use Rattle.fd_program.specs.Layouts.{loop_at};
-ghost use Rattle.fd_program.specs.Trace.{is_empty_turn};
-ghost use Rattle.fd_program.specs.declared.trace.LoopTurn.{LoopTurn as ATurn};
-ghost use Rattle.fd_program.specs.declared.trace.Step.{Step as AStep};
-ghost use Rattle.fd_program.specs.declared.trace.Step.TheVariants.{Distribute, Forall};
-ghost use Rattle.chaos_dist.specs.declared.step_form.StepForm.{StepForm as AForm};
-ghost use Rattle.chaos_executing.specs.InRun.{CanExecute, IsExecuting};
 ghost use Rattle.chaos_inspect.specs.Inspecting.{phase_of};
-ghost use Rattle.plan_loop.specs.declared.loop_phase.LoopPhase.{LoopPhase as APhase};
 ghost use Rattle.inspect_uses.specs.Accepted.{IsAccepted};
-ghost use Rattle.plan_loop.specs.declared.loop_phase.LoopPhase.TheVariants as phase;
-ghost use Rattle.plan_walk.specs.Places.{left_in};
-ghost use Rattle.plan_run.specs.Rows.{IsRunPlan, RunPlan, scene_in};
-ghost use Rattle.plan_run.specs.declared.stage.Stage.{Stage as AStage};
-ghost use Rattle.plan_run.specs.declared.stage.Stage.TheVariants as stage;
-ghost use Rattle.chaos_entering.specs.Behind.{stages_behind};
-ghost use Rattle.chaos_entering.specs.Coming.{CanStand, IsComing, EntersAs, KnowsLengths};
+ghost use Rattle.chaos_entering.specs.Coming.{CanStand};
 ghost use Rattle.chaos_entering.specs.Entering.{ArePosted, naming_in};
+ghost use Rattle.chaos_entering.specs.Enters.{EntersGather, EntersInspection, EntersMove, EntersScatter};
 ghost use Rattle.chaos_entering.specs.Sending.{AreSentBy, IsSomeOk, IsStagedBy};
-ghost use Rattle.chaos_holdings.specs.Keeping.{prepared_in};
-ghost use Rattle.chaos_entering.specs.Standing.{GoesOnInspecting, GoesOnMoving, session_in};
-ghost use Rattle.chaos_entering.specs.State.{NodeState};
 
 use crate::activity::Activity;
 use crate::enter_prints::enter_end;
@@ -158,12 +142,7 @@ pub fn enter_move(
     requires left { left < 2 ^ 31 }
     ensures made { IfOk result (CanStand me session.now.nodes) }
     ensures falls { IfOk result (λ e. e.left ≤ left) }
-    ensures right { IfOk result (λ e. (plan : RunPlan) (past rest : List AStep) (form : AForm) (now : AStage) (more : List AStage)
-        (st : NodeState) → IsRunPlan plan → session.now ≡ session_in plan
-        → execution ≡ length past → IsComing plan past (Distribute moving.share.decomposition form) rest now more me left st
-        → GoesOnMoving plan past moving.share.decomposition form now more me moving
-        → KnowsLengths plan past (Distribute moving.share.decomposition form) now me sizes.now
-        → EntersAs plan (left_in plan past (Distribute moving.share.decomposition form) rest (now ∷ more)) me e st) }
+    ensures right { IfOk result (EntersMove session.now me execution moving sizes.now left) }
 {
     match moving.stage() {
         Some(stage) => {
@@ -196,15 +175,7 @@ pub fn enter_inspection(
     ensures falls { IfOk result (λ e. e.left ≤ left) }
     ensures begins { IfOk result (λ e. e.begins ≡ false) }
     ensures placed { IfOk result (λ e. IfSome (phase_of inspection.stage) (λ l. (e.at.execution ≡ execution) × (e.at.site ≡ site))) }
-    ensures right { IfOk result (λ e. (plan : RunPlan) (past rest : List AStep) (turn : ATurn) (present : APhase) (st : NodeState)
-        → IsRunPlan plan → session.now ≡ session_in plan
-        → execution ≡ length past → IsComing plan past (Forall site turn) rest (stage.InLoop present)
-        (stages_behind (loop_at (scene_in plan) past site turn) present) me left st
-        → GoesOnInspecting plan past site turn present me st.holdings.tables inspection → parts.now ≡ st.holdings.parts
-        → pages.now ≡ st.holdings.pages
-        → KnowsLengths plan past (Forall site turn) (stage.InLoop present) me sizes.now
-        → EntersAs plan (left_in plan past (Forall site turn) rest
-        (stage.InLoop present ∷ stages_behind (loop_at (scene_in plan) past site turn) present)) me e st) }
+    ensures right { IfOk result (EntersInspection session.now me execution site inspection parts.now pages.now sizes.now left) }
 {
     match inspection.phase() {
         Some(phase) => {
@@ -233,14 +204,7 @@ pub fn enter_gather(
     requires left { left < 2 ^ 31 }
     ensures made { IfOk result (CanStand me session.now.nodes) }
     ensures falls { IfOk result (λ e. e.left ≤ left) }
-    ensures right { IfOk result (λ e. (plan : RunPlan) (past rest : List AStep) (turn : ATurn) (st : NodeState) → IsRunPlan plan
-        → session.now ≡ session_in plan
-        → execution ≡ length past → IsComing plan past (Forall site turn) rest (stage.InLoop phase.Gather) (stage.InLoop phase.Scatter
-        ∷ []) me left st
-        → is_empty_turn turn ≡ false → prepared_in st.holdings.kept site ≡ Some prepared.now
-        → CanExecute (scene_in plan) past site turn me st.holdings.tables prepared.now
-        → parts.now ≡ st.holdings.parts
-        → EntersAs plan (left_in plan past (Forall site turn) rest (stage.InLoop phase.Gather ∷ stage.InLoop phase.Scatter ∷ [])) me e st) }
+    ensures right { IfOk result (EntersGather session.now me execution site prepared.now parts.now left) }
 {
     letters_have_counts();
     let naming = naming(session, Stage::InLoop(LoopPhase::Gather), execution, site);
@@ -264,12 +228,7 @@ pub fn enter_scatter(
     requires left { left < 2 ^ 31 }
     ensures made { IfOk result (CanStand me session.now.nodes) }
     ensures falls { IfOk result (λ e. e.left ≤ left) }
-    ensures right { IfOk result (λ e. (plan : RunPlan) (past rest : List AStep) (turn : ATurn) (st : NodeState) → IsRunPlan plan
-        → session.now ≡ session_in plan
-        → execution ≡ length past → IsComing plan past (Forall site turn) rest (stage.InLoop phase.Scatter) [] me left st
-        → is_empty_turn turn ≡ false → prepared_in st.holdings.kept site ≡ Some prepared.now
-        → IsExecuting (scene_in plan) past site turn me st.holdings.tables prepared.now executing
-        → EntersAs plan (left_in plan past (Forall site turn) rest (stage.InLoop phase.Scatter ∷ [])) me e st) }
+    ensures right { IfOk result (EntersScatter session.now me execution site prepared.now executing left) }
 {
     letters_have_counts();
     let naming = naming(session, Stage::InLoop(LoopPhase::Scatter), execution, site);

@@ -28,6 +28,7 @@ use Rattle.chaos_sched.specs.declared.prepared.Prepared.{Prepared}
 use Rattle.chaos_node.proofs.ExecutionPlaces.{EndsPhase, ends_phase, some_same, steps_behind, turn_is}
 use Rattle.chaos_node.specs.Changing.{ChangesRight, changed_by}
 use Rattle.chaos_entering.specs.Coming.{IsComing, EntersAs}
+use Rattle.chaos_entering.specs.Enters.{EntersScatter}
 use Rattle.chaos_holdings.specs.Executions.{turn_in}
 use Rattle.chaos_holdings.specs.Keeping.{prepared_in}
 use Rattle.chaos_entering.specs.Standing.{IsGather, IsPlace, KnowsInStep, session_in}
@@ -44,14 +45,6 @@ ExecutesRight tables prepared facts pieces taken x =
     (s : Scene) (past : List Step) (site : ℕ) (turn : LoopTurn) (p : ℕ) → CanExecute s past site turn p tables prepared
     → facts ≡ loop_at s past site turn → pieces ≡ parts_of s.checked.arrays (owners_at s past) (store_at s past) p
     → taken ≡ owed_at_loop s past site turn phase.Gather p → IsExecuting s past site turn p tables prepared x
-
-abbrev pub EntersScatter : Session → ℕ → ℕ → ℕ → Prepared → Executing → ℕ → Entered → Type 0
-EntersScatter session me execution site prepared x left e =
-    (plan : RunPlan) (past rest : List Step) (turn : LoopTurn) (st : NodeState) → IsRunPlan plan → session ≡ session_in plan
-    → execution ≡ length past → IsComing plan past (Forall site turn) rest (stage.InLoop phase.Scatter) [] me left st
-    → is_empty_turn turn ≡ false → prepared_in st.holdings.kept site ≡ Some prepared
-    → IsExecuting (scene_in plan) past site turn me st.holdings.tables prepared x
-    → EntersAs plan (left_in plan past (Forall site turn) rest (stage.InLoop phase.Scatter ∷ [])) me e st
 
 -- ---- nothing else happens
 

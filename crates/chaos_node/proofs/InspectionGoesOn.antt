@@ -20,6 +20,7 @@ use Rattle.plan_walk.specs.Places.{left_in, present_phase, whole_left}
 use Rattle.chaos_entering.specs.Behind.{stages_behind, stages_go_on}
 use Rattle.chaos_node.specs.Changing.{ChangesRight, changed_by}
 use Rattle.chaos_entering.specs.Coming.{IsComing, EntersAs, KnowsLengths}
+use Rattle.chaos_entering.specs.Enters.{EntersInspection}
 use Rattle.chaos_node.specs.Inspections.{EndsPhase, HasInspected}
 use Rattle.chaos_entering.specs.Standing.{GoesOnInspecting, KnowsInStep, session_in}
 use Rattle.chaos_entering.specs.State.{NodeState, held_of}
@@ -27,20 +28,6 @@ use Rattle.chaos_node.specs.declared.change.Change.{Change}
 use Rattle.chaos_holdings.specs.declared.effect.Effect.TheVariants.{Inspects}
 use Rattle.chaos_entering.specs.declared.entered.Entered.{Entered}
 use Rattle.chaos_node.proofs.InspectionSteps.{inspection_is_early, is_past, keeps_from_phase, left_passes, lengths_behind, vote_passes}
-
--- what is known of a phase that is entered, for whatever plan
-abbrev pub EntersInspection : View NodeState → Inspection → List ℕ → ℕ → Entered → Type 0
-EntersInspection v i sizes left e =
-    (plan : RunPlan) (past rest : List Step) (turn : LoopTurn) (present : LoopPhase) (st : NodeState) → IsRunPlan plan
-    → v.state.session ≡ session_in plan
-    → v.state.at.execution ≡ length past
-    → IsComing plan past (Forall v.state.at.site turn) rest (stage.InLoop present)
-    (stages_behind (loop_at (scene_in plan) past v.state.at.site turn) present) v.face.me left st
-    → GoesOnInspecting plan past v.state.at.site turn present v.face.me st.holdings.tables i → v.state.holdings.parts ≡ st.holdings.parts
-    → v.state.holdings.pages ≡ st.holdings.pages
-    → KnowsLengths plan past (Forall v.state.at.site turn) (stage.InLoop present) v.face.me sizes
-    → EntersAs plan (left_in plan past (Forall v.state.at.site turn) rest
-    (stage.InLoop present ∷ stages_behind (loop_at (scene_in plan) past v.state.at.site turn) present)) v.face.me e st
 
 -- what it changes
 abbrev pub goes_on_with : List Stamps → Entered → Change
@@ -82,7 +69,9 @@ knows_next plan t p st i tables e next others is h there =
 
 pub inspection_goes_on : (v : View NodeState) (i : Inspection) (tables : List Stamps) (e : Entered) (left : ℕ) → OthersStayPrepared
     → EndsPhase v i tables
-    → offence_in i.stage ≡ None → is_some (phase_of i.stage) ≡ true → left + 1 ≡ v.face.left → EntersInspection v i v.state.at.sizes left e
+    → offence_in i.stage ≡ None → is_some (phase_of i.stage) ≡ true → left + 1 ≡ v.face.left
+    → EntersInspection v.state.session v.face.me v.state.at.execution v.state.at.site i v.state.holdings.parts v.state.holdings.pages
+    v.state.at.sizes left e
     → ChangesRight v (goes_on_with tables e)
 inspection_goes_on v i tables e left others ends passes goes falls enters plan t p is less row holds = by (phase_of i.stage) refl goes
   where

@@ -42,6 +42,7 @@ use Rattle.plan_walk.specs.StepEnds.{run_starts}
 use Rattle.chaos_entering.specs.Behind.{stages_behind, stages_end}
 use Rattle.chaos_node.specs.Changing.{ChangesRight, changed_by}
 use Rattle.chaos_entering.specs.Coming.{IsComing, EntersAs}
+use Rattle.chaos_entering.specs.Enters.{EntersGather}
 use Rattle.chaos_node.specs.Inspections.{EndsPhase, HasInspected}
 use Rattle.chaos_holdings.specs.Keeping.{prepared_by, prepared_in}
 use Rattle.chaos_entering.specs.Standing.{session_in}
@@ -53,18 +54,6 @@ use Rattle.chaos_holdings.specs.declared.session.Session.{Session}
 use Rattle.chaos_node.proofs.InspectionComes.{steps_at}
 use Rattle.chaos_node.proofs.InspectionGoesOn.{next_phase_is}
 use Rattle.chaos_node.proofs.InspectionSteps.{is_past, left_passes}
-
--- what is known of a gather that is entered, for whatever plan
-abbrev pub EntersGather : View NodeState → Prepared → ℕ → Entered → Type 0
-EntersGather v prepared left e =
-    (plan : RunPlan) (past rest : List Step) (turn : LoopTurn) (st : NodeState) → IsRunPlan plan → v.state.session ≡ session_in plan
-    → v.state.at.execution ≡ length past
-    → IsComing plan past (Forall v.state.at.site turn) rest (stage.InLoop phase.Gather) (stage.InLoop phase.Scatter ∷ []) v.face.me left st
-    → is_empty_turn turn ≡ false → prepared_in st.holdings.kept v.state.at.site ≡ Some prepared
-    → CanExecute (scene_in plan) past v.state.at.site turn v.face.me st.holdings.tables prepared
-    → v.state.holdings.parts ≡ st.holdings.parts
-    → EntersAs plan (left_in plan past (Forall v.state.at.site turn) rest (stage.InLoop phase.Gather ∷ stage.InLoop phase.Scatter ∷ []))
-    v.face.me e st
 
 abbrev kept_of : LoopRecord → Prepared → Kept
 kept_of latest prepared = record { latest = latest; prepared = Some prepared }
@@ -145,7 +134,9 @@ pub inspection_is_over : (v : View NodeState) (i : Inspection) (tables : List St
     (e : Entered) (left : ℕ)
     → OthersStayPrepared → RecordsAreExact → StepsAreIn → EndsPhase v i tables → offence_in i.stage ≡ None → phase_of i.stage ≡ None
     → latest ≡ record_in v.state.holdings.records v.state.session.checked v.state.at.site i.facts.turn → IsMade i prepared
-    → left + 1 ≡ v.face.left → EntersGather v prepared left e → ChangesRight v (keeps_with tables latest prepared e)
+    → left + 1 ≡ v.face.left
+    → EntersGather v.state.session v.face.me v.state.at.execution v.state.at.site prepared v.state.holdings.parts left e
+    → ChangesRight v (keeps_with tables latest prepared e)
 inspection_is_over v i tables latest prepared e left others exact steps ends passes over noted made falls enters plan t p is less row
     holds =
     let h : HasInspected plan t p v.state i tables = ends plan t p is less row holds in

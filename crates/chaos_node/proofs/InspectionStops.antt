@@ -33,6 +33,7 @@ use Rattle.plan_walk.specs.Places.{left_in, outputs_left, present_phase, whole_f
 use Rattle.chaos_entering.specs.Behind.{stages_behind}
 use Rattle.chaos_node.specs.Changing.{ChangesRight, changed_by}
 use Rattle.chaos_entering.specs.Coming.{IsBehindSteps, EntersAs}
+use Rattle.chaos_entering.specs.Enters.{EntersOutput}
 use Rattle.chaos_node.specs.Inspections.{EndsPhase, HasInspected}
 use Rattle.chaos_entering.specs.Standing.{KnowsBehind, session_in}
 use Rattle.chaos_entering.specs.State.{NodeState, held_of}
@@ -41,13 +42,6 @@ use Rattle.chaos_holdings.specs.declared.effect.Effect.TheVariants.{Refuses}
 use Rattle.chaos_entering.specs.declared.entered.Entered.{Entered}
 use Rattle.chaos_holdings.specs.declared.session.Session.{Session}
 use Rattle.chaos_node.proofs.InspectionSteps.{is_past}
-
--- what is known of OUTPUT that is entered, for whatever plan
-abbrev pub EntersOutput : View NodeState → ℕ → Entered → Type 0
-EntersOutput v left e =
-    (plan : RunPlan) (st : NodeState) → IsRunPlan plan → v.state.session ≡ session_in plan → IsBehindSteps plan 0 v.face.me left st
-    → v.state.holdings.elements ≡ st.holdings.elements → v.state.holdings.parts ≡ st.holdings.parts
-    → EntersAs plan (outputs_left plan (completed_of (run_in plan)) 0 (drop 0 plan.checked.outputs)) v.face.me e st
 
 -- what it changes
 abbrev pub refuses_with : Refused → List ℕ → Entered → Change
@@ -108,7 +102,8 @@ pub inspection_stops : (v : View NodeState) (i : Inspection) (tables : List Stam
     → EndsPhase v i tables → offence_in i.stage ≡ Some o
     → line ≡ text_on v.face.me (refusal_line v.state.session.checked (refused_here v.state.at.site o))
     → (length v.state.session.checked.outputs < v.face.left → left ≡ length v.state.session.checked.outputs)
-    → EntersOutput v left e → ChangesRight v (refuses_with (refused_here v.state.at.site o) line e)
+    → EntersOutput v.state.session v.face.me 0 v.state.holdings.elements v.state.holdings.parts left e
+    → ChangesRight v (refuses_with (refused_here v.state.at.site o) line e)
 inspection_stops v i tables o line e left ends told line_is left_is enters plan t p is less row holds =
     let h : HasInspected plan t p v.state i tables = ends plan t p is less row holds in
     let s = scene_in plan in

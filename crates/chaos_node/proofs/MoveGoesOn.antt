@@ -13,6 +13,7 @@ use Rattle.plan_run.specs.declared.stage.Stage.{Stage}
 use Rattle.plan_walk.specs.PhaseBegins.{phases_follow}
 use Rattle.plan_walk.specs.Places.{left_in, present_phase, whole_left}
 use Rattle.chaos_entering.specs.Coming.{IsComing, EntersAs, KnowsLengths}
+use Rattle.chaos_entering.specs.Enters.{EntersMove}
 use Rattle.chaos_entering.specs.Standing.{GoesOnMoving, KnowsInStep, session_in}
 use Rattle.chaos_entering.specs.State.{NodeState, held_of}
 use Rattle.chaos_entering.specs.declared.entered.Entered.{Entered}
@@ -22,16 +23,6 @@ use Rattle.chaos_node.specs.Moves.{EndsStage, HasGoneOn}
 use Rattle.chaos_node.specs.declared.change.Change.{Change}
 use Rattle.chaos_node.proofs.InspectionSteps.{is_past}
 use Rattle.chaos_node.proofs.MoveSteps.{knows_goes_on, move_lengths, moving_is_plain}
-
--- what is known of a stage that is entered, for whatever plan
-abbrev pub EntersMove : View NodeState → Moving → List ℕ → ℕ → Entered → Type 0
-EntersMove v m sizes left e =
-    (plan : RunPlan) (past rest : List Step) (form : StepForm) (now : Stage) (more : List Stage) (st : NodeState) → IsRunPlan plan
-    → v.state.session ≡ session_in plan
-    → v.state.at.execution ≡ length past → IsComing plan past (Distribute m.share.decomposition form) rest now more v.face.me left st
-    → GoesOnMoving plan past m.share.decomposition form now more v.face.me m
-    → KnowsLengths plan past (Distribute m.share.decomposition form) now v.face.me sizes
-    → EntersAs plan (left_in plan past (Distribute m.share.decomposition form) rest (now ∷ more)) v.face.me e st
 
 -- what it changes
 abbrev pub only_enters : Entered → Change
@@ -43,7 +34,7 @@ with_text v text = record v { text = text }
 
 pub move_goes_on : (v : View NodeState) (m : Moving) (e : Entered) (left : ℕ) → EndsStage v m → is_some (stage_in m.stage) ≡ true
     → left + 1 ≡ v.face.left
-    → EntersMove v m v.state.at.sizes left e → ChangesRight v (only_enters e)
+    → EntersMove v.state.session v.face.me v.state.at.execution m v.state.at.sizes left e → ChangesRight v (only_enters e)
 move_goes_on v m e left ends goes falls enters plan t p is less row holds = by (stages_left m.stage) refl goes
   where
     h : HasGoneOn plan t p v.state m

@@ -36,6 +36,7 @@ use Rattle.plan_walk.specs.Places.{left_from, left_in, present_phase, whole_from
 use Rattle.plan_walk.specs.StepEnds.{steps_are_known, steps_end}
 use Rattle.chaos_table.specs.declared.pages.Pages.{Pages}
 use Rattle.chaos_entering.specs.Coming.{Covers, IsHere, ComesNext, EntersAs}
+use Rattle.chaos_entering.specs.Enters.{EntersNext}
 use Rattle.chaos_entering.specs.Standing.{HasCome, session_in}
 use Rattle.chaos_entering.specs.State.{NodeState, held_of}
 use Rattle.chaos_entering.specs.declared.entered.Entered.{Entered}
@@ -43,6 +44,7 @@ use Rattle.chaos_holdings.specs.Keeping.{with_given_up}
 use Rattle.chaos_holdings.specs.Parts.{parts_with}
 use Rattle.chaos_holdings.specs.declared.effect.Effect.TheVariants.{Moves}
 use Rattle.chaos_holdings.specs.declared.session.Session.{Session}
+use Rattle.chaos_node.specs.Printed.{few_steps}
 use Rattle.chaos_node.specs.Changing.{ChangesRight, changed_by}
 use Rattle.chaos_node.specs.Ends.{LooksWith}
 use Rattle.chaos_node.specs.Moves.{EndsStage, HasGoneOn}
@@ -53,13 +55,6 @@ use Rattle.chaos_node.proofs.MoveLists.{elements_moved, inspections_stay, is_dro
 use Rattle.chaos_node.proofs.MoveSteps.{keeps_in_move, moving_is_plain}
 
 -- ---- statements
-
--- what is known of the next step that is entered, for whatever plan; the pages are those behind the move
-abbrev pub EntersBehind : View NodeState → Between → List (Option Pages) → ℕ → ℕ → Entered → Type 0
-EntersBehind v b pages number left e =
-    (plan : RunPlan) (past rest : List Step) (after : NodeState) → IsRunPlan plan → v.state.session ≡ session_in plan → number ≡ length past
-    → IsHere plan b (held_of after) → pages ≡ after.holdings.pages → ComesNext plan past rest b.me left after
-    → EntersAs plan (left_from plan past rest) b.me e after
 
 -- what it changes
 abbrev pub moves_with : ℕ → Moved → List (List ℤ) → Records → Entered → Change
@@ -108,9 +103,6 @@ records_moved c past d form before after moves few keeps known short notes =
 
 -- ---- the next step
 
-few_steps : (n m : ℕ) → n ≡ m → m ≤ 20000 → n < 2 ^ 32
-few_steps n m e h = omega (arith, e, h)
-
 pub move_is_over : (v : View NodeState) (m : Moving) (x : Moved) (elements parts : List (List ℤ)) (records : Records)
     (pages : List (Option Pages)) (b : Between)
     (number left : ℕ) (e : Entered) → MoveKeeps → VersionsAreFew → StepsAreIn → EndsStage v m → stage_in m.stage ≡ None → IsFinished m x
@@ -120,7 +112,7 @@ pub move_is_over : (v : View NodeState) (m : Moving) (x : Moved) (elements parts
     → pages ≡ slice_set v.state.holdings.pages m.share.decomposition x.page
     → LooksWith v.state v.face.me elements parts records b → (v.state.at.execution < 2 ^ 32 → number ≡ v.state.at.execution + 1)
     → left + 1 ≡ v.face.left
-    → EntersBehind v b pages number left e → ChangesRight v (moves_with m.share.decomposition x parts records e)
+    → EntersNext v.state.session b pages number left e → ChangesRight v (moves_with m.share.decomposition x parts records e)
 move_is_over v m x elements parts records pages b number left e moves few steps ends over finished elements_are parts_are notes pages_are
     look counts falls enters plan t p is less row holds =
     let h : HasGoneOn plan t p v.state m = ends plan t p is less row holds in

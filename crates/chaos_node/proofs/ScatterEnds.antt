@@ -49,6 +49,7 @@ use Rattle.chaos_node.proofs.ExecutionCounts.{counted_same, last_inspects}
 use Rattle.chaos_node.proofs.ExecutionPlaces.{EndsPhase, ends_phase, some_same}
 use Rattle.chaos_node.specs.Changing.{ChangesRight, changed_by}
 use Rattle.chaos_entering.specs.Coming.{Covers, IsHere, ComesNext, EntersAs}
+use Rattle.chaos_entering.specs.Enters.{EntersNext}
 use Rattle.chaos_node.specs.Ends.{LooksWith}
 use Rattle.chaos_holdings.specs.Executions.{counted_with, is_last}
 use Rattle.chaos_node.specs.Executions.{count_behind}
@@ -69,12 +70,6 @@ AppliesRight prepared x taken pieces after =
     → pieces ≡ parts_of s.checked.arrays (owners_at s past) (store_at s past) p → taken ≡ owed_at_loop s past site turn phase.Scatter p
     → after ≡ parts_of s.checked.arrays (owners_at s past) (after_loop s.checked.arrays (site_at s.checked.sites site) turn
     (store_at s past)) p
-
-abbrev pub EntersNext : Session → Between → List (Option Pages) → ℕ → ℕ → Entered → Type 0
-EntersNext session between pages from left e =
-    (plan : RunPlan) (past rest : List Step) (st : NodeState) → IsRunPlan plan → session ≡ session_in plan → from ≡ length past
-    → IsHere plan between (held_of st) → pages ≡ st.holdings.pages → ComesNext plan past rest between.me left st
-    → EntersAs plan (left_from plan past rest) between.me e st
 
 -- ---- nothing else happens
 

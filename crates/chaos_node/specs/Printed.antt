@@ -38,6 +38,7 @@ use Rattle.plan_walk.specs.Walking.{face_done}
 use Rattle.chaos_print.specs.InPlan.{CanPrint, OutputsGoOn, PlansCanPrint, PrintsGoOn, text_with}
 use Rattle.chaos_print.specs.Printing.{print_text}
 use Rattle.chaos_entering.specs.Coming.{IsBehindSteps, IsHere, ComesNext, EntersAs}
+use Rattle.chaos_entering.specs.Enters.{EntersNext, EntersOutput}
 use Rattle.chaos_node.specs.Ends.{LooksAt}
 use Rattle.chaos_holdings.specs.Keeping.{prepared_in}
 use Rattle.chaos_entering.specs.Standing.{HoldsAt, IsOutput, IsPlace, IsPrint, session_in}
@@ -285,27 +286,13 @@ is_here plan st me line b session look = record {
   };
 }
 
--- what enter_next tells of the phase it made
-abbrev pub EntersNext : NodeState → Between → ℕ → ℕ → Entered → Type 0
-EntersNext st b number left e =
-    (plan : RunPlan) (past rest : List Step) (after : NodeState) → IsRunPlan plan → st.session ≡ session_in plan → number ≡ length past
-    → IsHere plan b (held_of after) → st.holdings.pages ≡ after.holdings.pages → ComesNext plan past rest b.me left after
-    → EntersAs plan (left_from plan past rest) b.me e after
-
--- and enter_output
-abbrev pub EntersOutput : NodeState → ℕ → ℕ → ℕ → Entered → Type 0
-EntersOutput st me number left e =
-    (plan : RunPlan) (after : NodeState) → IsRunPlan plan → st.session ≡ session_in plan → IsBehindSteps plan number me left after
-    → st.holdings.elements ≡ after.holdings.elements → st.holdings.parts ≡ after.holdings.parts
-    → EntersAs plan (outputs_left plan (completed_of (run_in plan)) number (drop number plan.checked.outputs)) me e after
-
-few_steps : (n m : ℕ) → n ≡ m → m ≤ 20000 → n < 2 ^ 32
+pub few_steps : (n m : ℕ) → n ≡ m → m ≤ 20000 → n < 2 ^ 32
 few_steps n m e h = omega (arith, e, h)
 
 pub print_right : (plan : RunPlan) (t p : ℕ) (v : View NodeState) (line : List ℕ) (b : Between) (number left : ℕ) (e : Entered)
     → IsRunPlan plan → IsPrinted plan t p v line
     → LooksAt v.state v.face.me b → (v.state.at.execution < 2 ^ 32 → number ≡ v.state.at.execution + 1) → left + 1 ≡ v.face.left
-    → EntersNext v.state b number left e → EntersAs plan (drop (t + 1) (phases_in plan)) p e (with_line v.state line)
+    → EntersNext v.state.session b v.state.holdings.pages number left e → EntersAs plan (drop (t + 1) (phases_in plan)) p e (with_line v.state line)
 print_right plan t p v line b number left e is h look counts one enters =
     let past = Print v.state.at.site ∷ h.past in
     let st = with_line v.state line in
@@ -319,7 +306,7 @@ print_right plan t p v line b number left e is h look counts one enters =
 pub output_right : (plan : RunPlan) (t p j : ℕ) (v : View NodeState) (line : List ℕ) (number left : ℕ) (e : Entered) → IsRunPlan plan
     → IsPutOut plan t p j v line
     → (j + 1 < 2 ^ 32 → number ≡ j + 1) → left + 1 ≡ v.face.left
-    → EntersOutput v.state v.face.me number left e → EntersAs plan (drop (t + 1) (phases_in plan)) p e (with_line v.state line)
+    → EntersOutput v.state.session v.face.me number v.state.holdings.elements v.state.holdings.parts left e → EntersAs plan (drop (t + 1) (phases_in plan)) p e (with_line v.state line)
 output_right plan t p j v line number left e is h counts one enters =
     let st = with_line v.state line in
     let numbered : number ≡ j + 1 = counts (few_arrays (j + 1) (length plan.checked.outputs) h.few is.within.outputs) in

@@ -1,8 +1,9 @@
 use Rattle.std.proofs.Common.{ap, subst, ◌-◌}
 use Rattle.bsp_core.specs.Views.{View}
+use Rattle.chaos_entering.specs.Enters.{EntersOutput}
 use Rattle.chaos_entering.specs.State.{NodeState}
 use Rattle.chaos_node.specs.Kept.{shown_node}
-use Rattle.chaos_node.specs.Printed.{EntersOutput, is_put_out, output_right, still_small}
+use Rattle.chaos_node.specs.Printed.{is_put_out, output_right, still_small}
 use Rattle.chaos_node.proofs.Making.{made_by, one_behind, some_inside}
 use Rattle.chaos_node.proofs.node.Node.end_output.Goals as goal
 
@@ -26,5 +27,5 @@ returns-clause-right c plan t p is less row holds =
     row holds c.requires.at c.in_ok-line.ensures)
     c.number_after.ensures
     (one_behind (shown_node c.self.inside) c.args.self.now c.self.view_is c.requires.work)
-    (subst (λ (v : View NodeState). EntersOutput v.state v.face.me c.number_after.result (c.self.inside.left - 1) c.in_ok-entered.entered)
-    c.self.view_is c.in_ok-entered.ensures.right)
+    (subst (λ (v : View NodeState). EntersOutput v.state.session v.face.me c.number_after.result v.state.holdings.elements
+    v.state.holdings.parts (c.self.inside.left - 1) c.in_ok-entered.entered) c.self.view_is c.in_ok-entered.ensures.right)

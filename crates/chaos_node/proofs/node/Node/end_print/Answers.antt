@@ -1,8 +1,9 @@
 use Rattle.std.proofs.Common.{subst, ◌-◌}
 use Rattle.bsp_core.specs.Views.{View}
+use Rattle.chaos_entering.specs.Enters.{EntersNext}
 use Rattle.chaos_entering.specs.State.{NodeState}
 use Rattle.chaos_node.specs.Kept.{shown_node}
-use Rattle.chaos_node.specs.Printed.{EntersNext, is_printed, print_right, still_small}
+use Rattle.chaos_node.specs.Printed.{is_printed, print_right, still_small}
 use Rattle.chaos_node.proofs.Making.{made_by, one_behind, some_inside}
 use Rattle.chaos_node.proofs.node.Node.end_print.Goals as goal
 
@@ -25,5 +26,5 @@ returns-clause-right c plan t p is less row holds =
     c.requires.at c.in_ok-line.ensures)
     c.between.ensures.is c.next_number.ensures
     (one_behind (shown_node c.self.inside) c.args.self.now c.self.view_is c.requires.work)
-    (subst (λ (v : View NodeState). EntersNext v.state c.between.result c.next_number.result (c.self.inside.left - 1)
-    c.in_ok-entered.entered) c.self.view_is c.in_ok-entered.ensures.right)
+    (subst (λ (v : View NodeState). EntersNext v.state.session c.between.result v.state.holdings.pages c.next_number.result
+    (c.self.inside.left - 1) c.in_ok-entered.entered) c.self.view_is c.in_ok-entered.ensures.right)

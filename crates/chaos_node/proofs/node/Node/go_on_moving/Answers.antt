@@ -1,10 +1,11 @@
 use Rattle.std.specs.Prelude.{◌-◌}
 use Rattle.std.proofs.Common.{sym, subst}
 use Rattle.chaos_holdings.specs.declared.effect.Effect.TheVariants.{Nothing}
+use Rattle.chaos_entering.specs.Enters.{EntersMove}
 use Rattle.chaos_node.specs.Kept.{shown_node}
 use Rattle.chaos_node.specs.Moves.{EndsStage}
 use Rattle.chaos_node.specs.Printed.{one_back, still_small}
-use Rattle.chaos_node.proofs.MoveGoesOn.{EntersMove, move_goes_on}
+use Rattle.chaos_node.proofs.MoveGoesOn.{move_goes_on}
 use Rattle.chaos_node.proofs.Seen.{has_left, less_made, no_line, right_seen}
 use Rattle.chaos_node.proofs.node.Node.go_on_moving.Goals as goal
 
@@ -30,4 +31,4 @@ returns-clause-right c =
     (no_line v Nothing e c.new.result c.new.ensures
     (move_goes_on v m e (s.left - 1) (subst (λ x. EndsStage x m) (sym c.self.view_is) c.requires.ends) c.requires.some
     (one_back c.self.inside.left (has_left c.self.inside c.args.self.now c.self.view_is c.requires.work))
-    (subst (λ sizes. EntersMove v m sizes (s.left - 1) e) c.as_slice.ensures c.in_ok-entered.ensures.right)))
+    (subst (λ sizes. EntersMove s.session.now s.me s.at.execution m sizes (s.left - 1) e) c.as_slice.ensures c.in_ok-entered.ensures.right)))

@@ -1,10 +1,11 @@
 use Rattle.std.specs.Prelude.{◌-◌, None}
 use Rattle.std.proofs.Common.{sym, subst}
 use Rattle.chaos_holdings.specs.declared.effect.Effect.TheVariants.{Inspects}
+use Rattle.chaos_entering.specs.Enters.{EntersInspection}
 use Rattle.chaos_node.specs.Inspections.{EndsPhase}
 use Rattle.chaos_node.specs.Kept.{shown_node}
 use Rattle.chaos_node.specs.Printed.{one_back, still_small}
-use Rattle.chaos_node.proofs.InspectionGoesOn.{EntersInspection, inspection_goes_on}
+use Rattle.chaos_node.proofs.InspectionGoesOn.{inspection_goes_on}
 use Rattle.chaos_node.proofs.Seen.{has_left, less_made, no_line, right_seen}
 use Rattle.chaos_node.proofs.node.Node.next_phase.Goals as goal
 
@@ -35,4 +36,5 @@ returns-clause-right c =
     (inspection_goes_on v i tables e (s.left - 1) c.others_stay_prepared.ensures (subst (λ x. EndsPhase x i tables) (sym c.self.view_is)
     c.requires.ends) c.requires.passes c.requires.goes_on
     (one_back c.self.inside.left (has_left c.self.inside c.args.self.now c.self.view_is c.requires.work))
-    (subst (λ sizes. EntersInspection v i sizes (s.left - 1) e) c.as_slice.ensures c.in_ok-entered.ensures.right)))
+    (subst (λ sizes. EntersInspection s.session.now s.me s.at.execution s.at.site i s.holdings.parts s.holdings.pages sizes (s.left - 1) e)
+    c.as_slice.ensures c.in_ok-entered.ensures.right)))

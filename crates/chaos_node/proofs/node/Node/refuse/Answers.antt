@@ -6,7 +6,8 @@ use Rattle.chaos_holdings.specs.declared.effect.Effect.TheVariants.{Refuses}
 use Rattle.chaos_node.specs.Changing.{ChangesRight}
 use Rattle.plan_run.specs.Held.{text_on}
 use Rattle.fd_program.specs.Texts.{refusal_line}
-use Rattle.chaos_node.proofs.InspectionStops.{EntersOutput, inspection_stops, refused_here}
+use Rattle.chaos_entering.specs.Enters.{EntersOutput}
+use Rattle.chaos_node.proofs.InspectionStops.{inspection_stops, refused_here}
 use Rattle.chaos_node.proofs.Seen.{made_seen}
 use Rattle.chaos_node.proofs.node.Node.refuse.Goals as goal
 
@@ -48,4 +49,5 @@ returns-clause-right c =
     (subst (λ (x : View NodeState). c.in_ok-line.line ≡ text_on c.args.self.now.face.me
     (refusal_line c.args.self.now.state.session.checked (refused_here x.state.at.site c.args.offence))) c.self.view_is
     c.in_ok-line.ensures) c.outputs_left.ensures.is
-    (subst (λ x. EntersOutput x left e) c.self.view_is c.in_ok-entered.ensures.right))
+    (subst (λ (x : View NodeState). EntersOutput x.state.session x.face.me 0 x.state.holdings.elements x.state.holdings.parts left e)
+    c.self.view_is c.in_ok-entered.ensures.right))
