@@ -24,9 +24,11 @@ use Rattle.fd_loops.specs.declared.draft.Draft.{Draft}
 use Rattle.fd_loops.specs.declared.draft.Stamped.{Stamped}
 use Rattle.fd_resolve.specs.declared.marks.Mark.{Mark}
 use Rattle.fd_resolve.specs.declared.around.Around.{Around}
-use Rattle.fd_loops.specs.Drafts.{is_crowded, is_nearly_crowded, with_reference, is_stamped, stamp_in, used_at, is_worn, stamp_or_next, stamp_for, with_stamp}
+use Rattle.fd_loops.specs.Drafts.{is_crowded, is_nearly_crowded, with_reference, is_stamped, stamp_in, used_at, is_worn, stamp_or_next}
+use Rattle.fd_loops.specs.Drafts.{stamp_for, with_stamp}
 use Rattle.fd_loops.specs.Drafts.{after_stamp, stamp_faults, crowd_faults}
-use Rattle.fd_loops.specs.Elements.{index_reference, outer_reference, after_index, index_faults, is_index_crowded, after_own_stamp, own_stamp}
+use Rattle.fd_loops.specs.Elements.{index_reference, outer_reference, after_index, index_faults, is_index_crowded, after_own_stamp}
+use Rattle.fd_loops.specs.Elements.{own_stamp}
 use Rattle.fd_loops.specs.Elements.{own_stamp_faults, own_reference, after_own, own_faults, after_element, element_number, element_faults}
 use Rattle.fd_resolve.specs.Resolve.{array_called, array_or_first, array_unknown, subscript_unknowns, subscript_marks}
 use Rattle.fd_checks.proofs.Accepted.{left_empty, right_empty, test_false, not_false, is_some-some}

@@ -5,7 +5,8 @@ ghost use Rattle.fd_syntax.specs.declared.statement.Form.{Form};
 ghost use Rattle.fd_expressions.specs.Reads.{Reads};
 ghost use Rattle.fd_expressions.specs.Begun.{BegunSubscript, BegunIndexed, OpenedSubscript, OpenedCyclic};
 ghost use Rattle.fd_expressions.specs.declared.subscript.Start.TheVariants as start;
-ghost use Rattle.fd_grammar.specs.Machine.{Calm, run, Then, InSubscript, InIndexed, ThroughRest, TwiceRest, AfterSubscriptName, AfterCyclic};
+ghost use Rattle.fd_grammar.specs.Machine.{Calm, run, Then, InSubscript, InIndexed, ThroughRest, TwiceRest, AfterSubscriptName};
+ghost use Rattle.fd_grammar.specs.Machine.{AfterCyclic};
 ghost use Rattle.fd_grammar.specs.Machine.{Offset, InElement, term_of};
 
 use crate::parser::Parser;

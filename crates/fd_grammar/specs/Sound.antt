@@ -15,7 +15,8 @@ use Rattle.fd_grammar.specs.declared.sort.Sort.TheVariants as sort
 use Rattle.fd_grammar.specs.declared.mark.Mark.TheVariants as mark
 use Rattle.fd_grammar.specs.Sorts.{sort_of, is_word, name_of, sign_by, times_of, opens}
 use Rattle.fd_grammar.specs.Machine.{EndOfProgram, EndOfForall, mark_of, State, Calm, ScalarFactor, WholeScalar, PlacedScalar, ExprFactor}
-use Rattle.fd_grammar.specs.Machine.{WholeExpr, InSubscript, InIndexed, AnyName, SameName, Take, InForm, Operator, Head, Body, Close, FirstInner}
+use Rattle.fd_grammar.specs.Machine.{WholeExpr, InSubscript, InIndexed, AnyName, SameName, Take, InForm, Operator, Head, Body, Close}
+use Rattle.fd_grammar.specs.Machine.{FirstInner}
 use Rattle.fd_grammar.specs.Machine.{MoreInner, Begin, Ended, Then, MoreScalarFactors, MoreScalarTerms, MoreExprFactors, MoreExprTerms}
 use Rattle.fd_grammar.specs.Machine.{AfterName, AfterSubscriptName, MoreOffset, AfterCyclic, MoreItems, Want, step_want}
 use Rattle.fd_grammar.specs.Machine.{step_scalar_factors, step_scalar_terms, step_expr_factor, step_close, step_body, opening_by}

@@ -27,7 +27,8 @@ use Rattle.fd_grammar.specs.declared.mark.Fixed.{Fixed}
 use Rattle.fd_grammar.specs.declared.mark.Fixed.TheVariants as fixed
 use Rattle.fd_grammar.specs.Sorts.{reserved, name_of, sort_in, sort_of, sort_of_word, sign_by, times_of, opens}
 use Rattle.fd_grammar.specs.Machine.{EndOfProgram, EndOfDo, EndOfForall, Item, ParameterItem, SizedItem, ListedItem, AlignedItem, Value}
-use Rattle.fd_grammar.specs.Machine.{mark_of, State, Calm, ScalarFactor, WholeScalar, PlacedScalar, ExprFactor, WholeExpr, InSubscript, InIndexed}
+use Rattle.fd_grammar.specs.Machine.{mark_of, State, Calm, ScalarFactor, WholeScalar, PlacedScalar, ExprFactor, WholeExpr, InSubscript}
+use Rattle.fd_grammar.specs.Machine.{InIndexed}
 use Rattle.fd_grammar.specs.Machine.{AnyName, SameName, Take, InForm, Operator, Head, Body, Close, FirstInner, MoreInner, Begin, Ended}
 use Rattle.fd_grammar.specs.Machine.{Then, MoreScalarFactors, MoreScalarTerms, MoreExprFactors, MoreExprTerms, AfterName}
 use Rattle.fd_grammar.specs.Machine.{AfterSubscriptName, Offset, MoreOffset, AfterCyclic, MoreItems, Want, step_offset, step_indexed}

@@ -16,7 +16,8 @@ use Rattle.fd_scope.specs.declared.head.Head.{Head}
 use Rattle.fd_scope.specs.Faults.{fault_if}
 use Rattle.fd_loops.specs.declared.draft.Draft.{Draft}
 use Rattle.fd_resolve.specs.declared.around.Around.{Around}
-use Rattle.fd_loops.specs.Drafts.{is_crowded, is_nearly_crowded, with_reference, next_number, crowd_faults, stamp_for, after_stamp, stamp_faults}
+use Rattle.fd_loops.specs.Drafts.{is_crowded, is_nearly_crowded, with_reference, next_number, crowd_faults, stamp_for, after_stamp}
+use Rattle.fd_loops.specs.Drafts.{stamp_faults}
 use Rattle.fd_resolve.specs.Resolve.{array_called, array_or_first, array_unknown, offset_resolved, subscript_resolved, subscript_unknowns}
 use Rattle.fd_resolve.specs.Resolve.{subscript_marks}
 

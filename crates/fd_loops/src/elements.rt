@@ -1,5 +1,6 @@
 ghost use Rattle.std.specs.Prelude.{◌≡◌, ◌++◌, OnOk, IfOk};
-ghost use Rattle.fd_loops.specs.Elements.{index_reference, outer_reference, after_index, index_faults, is_index_crowded, after_own_stamp, own_stamp};
+ghost use Rattle.fd_loops.specs.Elements.{index_reference, outer_reference, after_index, index_faults, is_index_crowded, after_own_stamp};
+ghost use Rattle.fd_loops.specs.Elements.{own_stamp};
 ghost use Rattle.fd_loops.specs.Elements.{own_stamp_faults, own_reference, after_own, own_faults, after_element, element_number};
 ghost use Rattle.fd_loops.specs.Elements.{element_faults};
 
