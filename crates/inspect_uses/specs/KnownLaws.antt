@@ -180,8 +180,7 @@ module _ (arrays : List ArrayFacts) (adds : List ℤ) (store : List (List ℤ)) 
     step : (a b : Option ℤ) (s : CheckedSubscript) → r.subscript ≡ s → (last : Option Reference) → Same last a b → IsServed last s
         → (r.role ≡ Index → IsIndexing s) → GoalOf (made a) (made b)
     step a b (Plain terms) e last same served index =
-        same_one a b (ap (use_of r i (place + 1)) (same_subscript arrays adds store i r.subscript (number_at adds place) a b
-        (ap is_plain e)))
+        same_one a b (ap (use_of r i (place + 1)) (same_subscript arrays adds store i r.subscript (number_at adds place) a b (ap is_plain e)))
         (λ gives not_plain. let plain : is_plain r.subscript ≡ true = ap is_plain e in absurd (no_plain plain not_plain))
       where
         no_plain : is_plain r.subscript ≡ true → is_plain r.subscript ≡ false → ⊥
@@ -213,8 +212,7 @@ known_are_reached f store i more site =
 -- ---- how many they are
 
 -- index references alone give values
-count_indexes : (arrays : List ArrayFacts) (us : List Use) → count_by (gives_first arrays) (index_uses us)
-    ≡ count_by (gives_first arrays) us
+count_indexes : (arrays : List ArrayFacts) (us : List Use) → count_by (gives_first arrays) (index_uses us) ≡ count_by (gives_first arrays) us
 count_indexes arrays [] = refl
 count_indexes arrays (u ∷ us) = by (is_index u.role) refl (count_indexes arrays us)
     ∙ sym (sum_by-cons (λ w. cond (gives_first arrays w) 1 0) u us)
