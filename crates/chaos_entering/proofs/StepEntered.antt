@@ -319,7 +319,8 @@ inspection_comes plan past rest number site turn p left st next numbered at =
         };
         keeps = inspection_begins s (run_in plan) past site turn (first_phase f) p st.holdings.tables st.holdings.tables st.holdings.kept
             at.inspects
-            (not_executing (asks_places f (Indexes First)) (has_level f First) (asks_places f (Indexes Second)) (has_level f Second)) (λ k other steps t owners store q x h. h) come.keeps;
+            (not_executing (asks_places f (Indexes First)) (has_level f First) (asks_places f (Indexes Second)) (has_level f Second))
+            (λ k other steps t owners store q x h. h) come.keeps;
         inspected = noted_if;
         text = come.text;
         refused = come.refused;

@@ -292,7 +292,8 @@ few_steps n m e h = omega (arith, e, h)
 pub print_right : (plan : RunPlan) (t p : ℕ) (v : View NodeState) (line : List ℕ) (b : Between) (number left : ℕ) (e : Entered)
     → IsRunPlan plan → IsPrinted plan t p v line
     → LooksAt v.state v.face.me b → (v.state.at.execution < 2 ^ 32 → number ≡ v.state.at.execution + 1) → left + 1 ≡ v.face.left
-    → EntersNext v.state.session b v.state.holdings.pages number left e → EntersAs plan (drop (t + 1) (phases_in plan)) p e (with_line v.state line)
+    → EntersNext v.state.session b v.state.holdings.pages number left e
+    → EntersAs plan (drop (t + 1) (phases_in plan)) p e (with_line v.state line)
 print_right plan t p v line b number left e is h look counts one enters =
     let past = Print v.state.at.site ∷ h.past in
     let st = with_line v.state line in
@@ -306,7 +307,8 @@ print_right plan t p v line b number left e is h look counts one enters =
 pub output_right : (plan : RunPlan) (t p j : ℕ) (v : View NodeState) (line : List ℕ) (number left : ℕ) (e : Entered) → IsRunPlan plan
     → IsPutOut plan t p j v line
     → (j + 1 < 2 ^ 32 → number ≡ j + 1) → left + 1 ≡ v.face.left
-    → EntersOutput v.state.session v.face.me number v.state.holdings.elements v.state.holdings.parts left e → EntersAs plan (drop (t + 1) (phases_in plan)) p e (with_line v.state line)
+    → EntersOutput v.state.session v.face.me number v.state.holdings.elements v.state.holdings.parts left e
+    → EntersAs plan (drop (t + 1) (phases_in plan)) p e (with_line v.state line)
 output_right plan t p j v line number left e is h counts one enters =
     let st = with_line v.state line in
     let numbered : number ≡ j + 1 = counts (few_arrays (j + 1) (length plan.checked.outputs) h.few is.within.outputs) in

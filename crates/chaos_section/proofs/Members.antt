@@ -1,5 +1,6 @@
 -- The iterations at which some reference reaches an element of a node are those of each reference, in ascending order, each once.
-use Rattle.std.specs.Prelude.{◌≡◌, refl, ℕ, zero, suc, ℤ, pos, ◌+ℤ◌, ◌-ℤ◌, ◌<ℤ◌, ◌≤ℤ◌, Bool, true, false, ◌&&◌, ◌||◌, cond, List, [], ◌∷◌, filter, All}
+use Rattle.std.specs.Prelude.{◌≡◌, refl, ℕ, zero, suc, ℤ, pos, ◌+ℤ◌, ◌-ℤ◌, ◌<ℤ◌, ◌≤ℤ◌, Bool, true, false, ◌&&◌, ◌||◌, cond, List, [], ◌∷◌}
+use Rattle.std.specs.Prelude.{filter, All}
 use Rattle.std.specs.List.{AllByRecursion, flat_map, list_any}
 use Rattle.std.specs.List.Sorted.{IsStrictlySortedBy}
 use Rattle.std.specs.Ordering.{int_cmp, eq_by_cmp}
@@ -45,7 +46,8 @@ any-filter {A = A} t p (x ∷ xs) = by (t x) (any-filter t p xs)
     by true rest = ap (λ c. p x || c) rest
     by false rest = rest
 
-any-flat_map : {A B : Type 0} (f : A → List B) (p : B → Bool) (rs : List A) → list_any p (flat_map f rs) ≡ list_any (λ r. list_any p (f r)) rs
+any-flat_map : {A B : Type 0} (f : A → List B) (p : B → Bool) (rs : List A) → list_any p (flat_map f rs)
+    ≡ list_any (λ r. list_any p (f r)) rs
 any-flat_map f p [] = refl
 any-flat_map f p (r ∷ rs) = list_any-append p (f r) (flat_map f rs) ∙ ap (λ b. list_any p (f r) || b) (any-flat_map f p rs)
 
@@ -69,7 +71,8 @@ any-or s t p (x ∷ xs) =
 -- those at which some test passes, and those of each test
 any-tests : {A B : Type 0} (t : A → B → Bool) (p : B → Bool) (xs : List B) (rs : List A)
     → list_any p (filter (λ x. list_any (λ r. t r x) rs) xs) ≡ list_any p (flat_map (λ r. filter (t r) xs) rs)
-any-tests {A = A} {B = B} t p xs rs = any-filter (λ x. list_any (λ r. t r x) rs) p xs ∙ each rs ∙ sym (any-flat_map (λ r. filter (t r) xs) p rs)
+any-tests {A = A} {B = B} t p xs rs = any-filter (λ x. list_any (λ r. t r x) rs) p xs ∙ each rs
+    ∙ sym (any-flat_map (λ r. filter (t r) xs) p rs)
   where
     each : (rs : List A) → list_any (λ x. list_any (λ r. t r x) rs && p x) xs ≡ list_any (λ r. list_any p (filter (t r) xs)) rs
     each [] = none_any xs

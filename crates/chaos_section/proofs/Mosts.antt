@@ -1,5 +1,6 @@
 -- The node that most often is among the owners is among them.
-use Rattle.std.specs.Prelude.{◌≡◌, refl, ℕ, zero, suc, ◌+◌, ◌≤◌, ◌<◌, ◌==◌, nat_le, Bool, true, false, ◌&&◌, ◌||◌, cond, List, [], ◌∷◌, find}
+use Rattle.std.specs.Prelude.{◌≡◌, refl, ℕ, zero, suc, ◌+◌, ◌≤◌, ◌<◌, ◌==◌, nat_le, Bool, true, false, ◌&&◌, ◌||◌, cond, List, [], ◌∷◌}
+use Rattle.std.specs.Prelude.{find}
 use Rattle.std.specs.Prelude.{unwrap_or, count_by, map, length, Some}
 use Rattle.list_laws.specs.Tests.{same_when}
 use Rattle.std.specs.List.{AllByRecursion, list_all, list_any, range_with_len}
@@ -15,7 +16,14 @@ record IsGreatest (count : ℕ → ℕ) (n b : ℕ) : Type 0 where
   none_more : (m : ℕ) → m < n → count m ≤ count b
 
 some_greatest : (count : ℕ → ℕ) (n : ℕ) → (b : ℕ) × IsGreatest count (suc n) b
-some_greatest count zero = (0, record { inside = omega arith; none_more = λ m low. let same : m ≡ 0 = omega (arith, low) in subst (λ k. count k ≤ count 0) (sym same) (omega arith) })
+some_greatest count zero = (
+  0,
+  record {
+    inside = omega arith;
+    none_more = λ m low. let same : m ≡ 0 = omega (arith, low) in
+        subst (λ k. count k ≤ count 0) (sym same) (omega arith);
+  },
+)
 some_greatest count (suc n) =
     let rest = some_greatest count n in
     elim (cases_lt (count rest.0) (count (suc n))) [
@@ -82,7 +90,8 @@ counted : (m : ℕ) (owners : List ℕ) → 1 ≤ count_by (λ o. o == m) owners
 counted m [] h = absurd (omega (arith, h))
 counted m (x ∷ xs) h = by (x == m) (subst (λ n. 1 ≤ n) (sum_by-cons (λ o. cond (o == m) 1 0) x xs) h) (counted m xs)
   where
-    by : (b : Bool) → 1 ≤ cond b 1 0 + count_by (λ o. o == m) xs → (1 ≤ count_by (λ o. o == m) xs → list_any (λ o. o == m) xs ≡ true) → (b || list_any (λ o. o == m) xs) ≡ true
+    by : (b : Bool) → 1 ≤ cond b 1 0 + count_by (λ o. o == m) xs → (1 ≤ count_by (λ o. o == m) xs → list_any (λ o. o == m) xs ≡ true)
+        → (b || list_any (λ o. o == m) xs) ≡ true
     by true k rest = refl
     by false k rest = rest (omega (arith, k))
 
@@ -103,12 +112,16 @@ most_reaches (suc n) first owners h =
     let all = first ∷ owners in
     let count = λ (m : ℕ). count_by (λ o. o == m) all in
     let b = some_greatest count n in
-    let passes : is_most (suc n) all b.0 ≡ true = all_range (λ m. nat_le (count m) (count b.0)) 0 (suc n) (λ m from to. is_le (count m) (count b.0) (b.1.none_more m (omega (arith, to)))) in
+    let passes : is_most (suc n) all b.0 ≡ true = all_range (λ m. nat_le (count m) (count b.0)) 0 (suc n)
+    (λ m from to. is_le (count m) (count b.0) (b.1.none_more m (omega (arith, to)))) in
     let home = most_of (suc n) all in
-    let is : is_most (suc n) all home ≡ true = found_passes (is_most (suc n) all) 0 (suc n) b.0 (omega arith) (let i = b.1.inside in omega (arith, i)) passes in
-    let most : count first ≤ count home = le_is (count first) (count home) (one_of (λ m. nat_le (count m) (count home)) 0 (suc n) first (omega arith) (omega (arith, h)) is) in
+    let is : is_most (suc n) all home ≡ true = found_passes (is_most (suc n) all) 0 (suc n) b.0 (omega arith) (let i = b.1.inside in
+    omega (arith, i)) passes in
+    let most : count first ≤ count home = le_is (count first) (count home) (one_of (λ m. nat_le (count m) (count home)) 0 (suc n) first
+    (omega arith) (omega (arith, h)) is) in
     let here : 1 ≤ count first =
-    subst (λ k. 1 ≤ k) (sym (sum_by-cons (λ o. cond (o == first) 1 0) first owners ∙ ap (λ t. cond t 1 0 + count_by (λ o. o == first) owners) (itself first))) (omega arith) in
+    subst (λ k. 1 ≤ k) (sym (sum_by-cons (λ o. cond (o == first) 1 0) first owners
+    ∙ ap (λ t. cond t 1 0 + count_by (λ o. o == first) owners) (itself first))) (omega arith) in
     counted home all (omega (arith, most, here))
 
 -- ---- a section's home by most

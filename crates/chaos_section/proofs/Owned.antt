@@ -5,7 +5,8 @@ use Rattle.std.proofs.Common.{ap, sym, ◌∙◌, subst}
 use Rattle.std.proofs.lemmas.List.Elements.{recursion_from_All}
 use Rattle.chaos_dist.specs.LayoutLaws.{owner_of-below}
 use Rattle.fd_program.specs.ListLaws.{all_weaker}
-use Rattle.chaos_section.specs.Sections.{IsSection, IsSectionReference, TellsHomes, home_by, home_on, owner_at, range_on, iterations_on, shift_of}
+use Rattle.chaos_section.specs.Sections.{IsSection, IsSectionReference, TellsHomes, home_by, home_on, owner_at, range_on, iterations_on}
+use Rattle.chaos_section.specs.Sections.{shift_of}
 use Rattle.chaos_section.specs.declared.section.SectionHomes.TheVariants.{Most}
 use Rattle.chaos_section.specs.declared.section.SectionLoop.{SectionLoop}
 use Rattle.chaos_section.specs.declared.section.SectionReference.{SectionReference}
@@ -14,7 +15,8 @@ use Rattle.chaos_section.proofs.Mosts.{some_owned}
 use Rattle.chaos_section.proofs.Numbers.{natural_bounds}
 
 -- each owner is one of the nodes
-pub owner_at-below : (nodes : ℕ) (low high : ℤ) (r : SectionReference) (i : ℤ) → 1 ≤ nodes → IsSectionReference low high r → low ≤ℤ i → i ≤ℤ high
+pub owner_at-below : (nodes : ℕ) (low high : ℤ) (r : SectionReference) (i : ℤ) → 1 ≤ nodes → IsSectionReference low high r → low ≤ℤ i
+    → i ≤ℤ high
     → owner_at nodes r i < nodes
 owner_at-below nodes low high r i some h from to =
     let reaching = h.reaching i from to in
@@ -22,7 +24,8 @@ owner_at-below nodes low high r i some h from to =
     owner_of-below r.shape r.extent nodes _ some bounds.1 bounds.0
 
 pub owned_by_most : (l : SectionLoop) (me : ℕ) → IsSection l → l.homes ≡ Most
-    → filter (λ i. home_on l i == me) (filter (λ i. list_any (λ r. owner_at l.nodes r i == me) l.references) (range_on l)) ≡ iterations_on l me
+    → filter (λ i. home_on l i == me) (filter (λ i. list_any (λ r. owner_at l.nodes r i == me) l.references) (range_on l))
+    ≡ iterations_on l me
 owned_by_most l me h is =
     let some : 1 ≤ length l.references = subst (TellsHomes l.low l.high l.references) is h.homes in
     filter-twice (λ i. home_on l i == me) (λ i. list_any (λ r. owner_at l.nodes r i == me) l.references) (range_on l)

@@ -48,8 +48,10 @@ own-is l me r s e n first last shift es ee en ef el eh order least =
     ap (λ z. map (λ g. pos g -ℤ z) (filter (λ g. owner_of s e n g == me) (range_with_len first (last + 1 - first)))) eh
     ∙ ap (λ x. map (λ g. pos g -ℤ shift_of r) (filter (λ g. owner_of x e n g == me) (range_with_len first (last + 1 - first)))) es
     ∙ ap (λ x. map (λ g. pos g -ℤ shift_of r) (filter (λ g. owner_of r.shape x n g == me) (range_with_len first (last + 1 - first)))) ee
-    ∙ ap (λ x. map (λ g. pos g -ℤ shift_of r) (filter (λ g. owner_of r.shape r.extent x g == me) (range_with_len first (last + 1 - first)))) en
-    ∙ ap (λ x. map (λ g. pos g -ℤ shift_of r) (filter (λ g. owner_of r.shape r.extent l.nodes g == me) (range_with_len x (last + 1 - x)))) ef
+    ∙ ap (λ x. map (λ g. pos g -ℤ shift_of r) (filter (λ g. owner_of r.shape r.extent x g == me) (range_with_len first (last + 1 - first))))
+    en
+    ∙ ap (λ x. map (λ g. pos g -ℤ shift_of r) (filter (λ g. owner_of r.shape r.extent l.nodes g == me) (range_with_len x (last + 1 - x))))
+    ef
     ∙ ap (λ x. map (λ g. pos g -ℤ shift_of r) (filter (λ g. owner_of r.shape r.extent l.nodes g == me) (range_with_len (stands r l.low)
     (x + 1 - stands r l.low)))) el
     ∙ ap (λ k. map (λ g. pos g -ℤ shift_of r) (filter (λ g. owner_of r.shape r.extent l.nodes g == me) (range_with_len (stands r l.low) k)))

@@ -43,14 +43,17 @@ range_parts a zero n =
 range_parts a (suc m) n =
     let next : suc m + n ≡ suc (m + n) = omega arith in
     let there : a + 1 + m ≡ a + suc m = omega arith in
-    ap (range_with_len a) next ∙ ap (λ l. a ∷ l) (range_parts (a + 1) m n) ∙ ap (λ k. (a ∷ range_with_len (a + 1) m) ++ range_with_len k n) there
+    ap (range_with_len a) next ∙ ap (λ l. a ∷ l) (range_parts (a + 1) m n) ∙ ap (λ k. (a ∷ range_with_len (a + 1) m) ++ range_with_len k n)
+    there
 
 -- those of a + 1 to a + n among those of 1 to a + n + m
 own_span : (p : ℕ → Bool) (a n m : ℕ)
-    → map (at (filter p (range_with_len 1 (a + (n + m))))) (range_with_len (length (filter p (range_with_len 1 a))) (length (filter p (range_with_len (1 + a) n))))
+    → map (at (filter p (range_with_len 1 (a + (n + m))))) (range_with_len (length (filter p (range_with_len 1 a)))
+    (length (filter p (range_with_len (1 + a) n))))
     ≡ filter p (range_with_len (1 + a) n)
 own_span p a n m =
-    let parts : filter p (range_with_len 1 (a + (n + m))) ≡ filter p (range_with_len 1 a) ++ (filter p (range_with_len (1 + a) n) ++ filter p (range_with_len (1 + a + n) m)) =
+    let parts : filter p (range_with_len 1 (a + (n + m)))
+    ≡ filter p (range_with_len 1 a) ++ (filter p (range_with_len (1 + a) n) ++ filter p (range_with_len (1 + a + n) m)) =
     ap (filter p) (range_parts 1 a (n + m) ∙ ap (λ l. range_with_len 1 a ++ l) (range_parts (1 + a) n m))
     ∙ filter-append p (range_with_len 1 a) (range_with_len (1 + a) n ++ range_with_len (1 + a + n) m)
     ∙ ap (λ l. filter p (range_with_len 1 a) ++ l) (filter-append p (range_with_len (1 + a) n) (range_with_len (1 + a + n) m)) in
@@ -97,7 +100,8 @@ element_between shape e n me first last l g from_one within owner local low high
     let passes : p g ≡ true = ap (λ o. o == me) owner ∙ same_number me in (
       elim (cases_lt g first) [
         | inl less ↦
-            let far : count_up_to p (g - 1) < count_up_to p (first - 1) = count_up_to-passes p g (first - 1) from_one (omega arith) passes in
+            let far : count_up_to p (g - 1) < count_up_to p (first - 1) = count_up_to-passes p g (first - 1) from_one (omega arith) passes
+            in
             absurd (omega (arith, far, local, low))
         | inr more ↦ more
       ],

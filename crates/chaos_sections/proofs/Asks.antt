@@ -103,7 +103,8 @@ module _ (f : LoopFacts) (owners : List (List ℕ)) (store : List (List ℤ)) (m
       let at = from_flat_map (asked_at l me by_reference.0) (own_on l me by_reference.0) n by_reference.2 in
       let kept = from_filter (λ i. owner_at f.nodes by_reference.0 i == me) (iterations_of f.turn) at.0 at.1 in
       let one = from_if (home_on l at.0 == me) n (need_at l by_reference.0 at.0) at.2 in
-      let used = left_of_zip (IsTold f owners at.0) l.references (uses_at f store at.0) by_reference.0 (zip_in at.0 kept.0) by_reference.1 in
+      let used = left_of_zip (IsTold f owners at.0) l.references (uses_at f store at.0) by_reference.0 (zip_in at.0 kept.0) by_reference.1
+      in
       record {
         i = at.0;
         s = by_reference.0;

@@ -24,7 +24,8 @@ use Rattle.fd_program.specs.declared.site.Site.{Site}
 use Rattle.inspect_enter.proofs.AllMet.{all_met}
 use Rattle.inspect_enter.specs.Preparing.{IsSettled}
 use Rattle.inspect_uses.specs.Accepted.{AreOwners, IsAccepted}
-use Rattle.chaos_section.specs.Sections.{IsReaching, IsSection, IsSectionReference, TellsHomes, home_by as home_told, home_on, iterations_on, owner_at}
+use Rattle.chaos_section.specs.Sections.{IsReaching, IsSection, IsSectionReference, TellsHomes, home_by as home_told, home_on}
+use Rattle.chaos_section.specs.Sections.{iterations_on, owner_at}
 use Rattle.chaos_section.specs.declared.section.SectionReference.{SectionReference}
 use Rattle.chaos_sections.specs.SectionLoops.{is_section, no_reference, section_homes, section_loop, section_references}
 use Rattle.chaos_sections.proofs.Reached.{IsTold, IsUseOf, told, uses_of_section}
@@ -42,7 +43,8 @@ zip_at R (x ∷ xs) (y ∷ ys) (suc k) d e h less = zip_at R xs ys k d e h.1 (lo
     lower : (k n : ℕ) → suc k < suc n → k < n
     lower k n h = omega arith
 
-all_place : {A : Type 0} (P : A → Type 0) (xs : List A) (k : ℕ) (d : A) → AllByRecursion P xs → k < length xs → P (unwrap_or (slice_get xs k) d)
+all_place : {A : Type 0} (P : A → Type 0) (xs : List A) (k : ℕ) (d : A) → AllByRecursion P xs → k < length xs
+    → P (unwrap_or (slice_get xs k) d)
 all_place P [] k d h less = absurd (omega (arith, less))
 all_place P (x ∷ xs) zero d h less = h.0
 all_place P (x ∷ xs) (suc k) d h less = all_place P xs k d h.1 (lower k (length xs) less)
@@ -81,7 +83,8 @@ at_range P low high h i from to =
 
 -- ---- all references at one iteration
 
-pub told_all : (f : LoopFacts) (owners : List (List ℕ)) (i : ℤ) (ss : List SectionReference) (us : List Use) → IsAccepted f → AreOwners f owners
+pub told_all : (f : LoopFacts) (owners : List (List ℕ)) (i : ℤ) (ss : List SectionReference) (us : List Use) → IsAccepted f
+    → AreOwners f owners
     → AllZip (IsUseOf f i) ss us → AllByRecursion (λ u. is_met f.arrays u ≡ true) us → AllZip (IsTold f owners i) ss us
 told_all f owners i [] [] accepted owned h met = tt
 told_all f owners i [] (u ∷ us) accepted owned h met = absurd h
@@ -89,7 +92,8 @@ told_all f owners i (s ∷ ss) [] accepted owned h met = absurd h
 told_all f owners i (s ∷ ss) (u ∷ us) accepted owned h met =
     (told f owners i s u accepted owned h.0 met.0, told_all f owners i ss us accepted owned h.1 met.1)
 
-owners_same : (f : LoopFacts) (owners : List (List ℕ)) (i : ℤ) (ss : List SectionReference) (us : List Use) → AllZip (IsTold f owners i) ss us
+owners_same : (f : LoopFacts) (owners : List (List ℕ)) (i : ℤ) (ss : List SectionReference) (us : List Use)
+    → AllZip (IsTold f owners i) ss us
     → map (λ s. owner_at f.nodes s i) ss ≡ map (owner_met f owners) us
 owners_same f owners i [] [] h = refl
 owners_same f owners i [] (u ∷ us) h = absurd h
@@ -121,7 +125,11 @@ first_is : (f : LoopFacts) → IsAccepted f → IsFirst f (first_target f.site.b
 first_is f accepted =
     let role = first_there f.site f.site.body accepted.site.some accepted.site.body in
     let less = some_place _ f.site.references (first_target f.site.body - 1) role.1 in
-    record { from_one = role.0; there = subst (λ n. first_target f.site.body - 1 < n) (sym (length-section_references f 0 f.site.references)) less }
+    record {
+      from_one = role.0;
+      there = subst (λ n. first_target f.site.body - 1 < n)
+          (sym (length-section_references f 0 f.site.references)) less;
+    }
 
 -- ---- homes
 
@@ -144,7 +152,8 @@ home_same f owners store i accepted owned section met =
     by Most all first =
         ap (most_of f.nodes) (owners_same f owners i (section_references f 0 f.site.references) (uses_at f store i) all)
 
-pub section_is_loop : (f : LoopFacts) (owners : List (List ℕ)) (store : List (List ℤ)) (p : ℕ) → IsSettled f owners store → is_section f ≡ true
+pub section_is_loop : (f : LoopFacts) (owners : List (List ℕ)) (store : List (List ℤ)) (p : ℕ) → IsSettled f owners store → is_section f
+    ≡ true
     → iterations_on (section_loop f) p ≡ executed_by f owners store p
 section_is_loop f owners store p settled section =
     filter_same (λ i. home_on (section_loop f) i == p) (λ i. home_of f owners store i == p) (iterations_of f.turn)
@@ -160,7 +169,8 @@ record IsReachedAt (i : ℤ) (s : SectionReference) : Type 0 where
   extent : s.extent < 2 ^ 63
   size : 1 ≤ given_size s.shape
 
-reached_at : (f : LoopFacts) (owners : List (List ℕ)) (i : ℤ) (ss : List SectionReference) (us : List Use) → AllZip (IsTold f owners i) ss us
+reached_at : (f : LoopFacts) (owners : List (List ℕ)) (i : ℤ) (ss : List SectionReference) (us : List Use)
+    → AllZip (IsTold f owners i) ss us
     → AllByRecursion (IsReachedAt i) ss
 reached_at f owners i [] us h = tt
 reached_at f owners i (s ∷ ss) [] h = absurd h

@@ -22,7 +22,8 @@ pub overflow_cast-shifted : goal.overflow_cast-shifted
 overflow_cast-shifted c =
     let s = c.args.layout in
     let width = width_of-some s.shape s.extent s.nodes s.some_elements s.some_nodes s.some_size in
-    let between = own_between s.shape s.extent s.nodes c.args.me c.args.first c.args.last c.loop-local.local s.some_nodes width c.requires.node
+    let between = own_between s.shape s.extent s.nodes c.args.me c.args.first c.args.last c.loop-local.local s.some_nodes width
+    c.requires.node
     c.requires.within (omega (arith, c.loop-local.auto.local, c.count_to-from.ensures))
     (omega (arith, c.loop-local-test.true, c.count_to-end.ensures)) in
     omega (arith, ints, between.0, between.1, c.shifted.ensures, c.requires.low, c.requires.high)
@@ -31,7 +32,8 @@ pub loop-local-preserved : goal.loop-local-preserved
 loop-local-preserved c =
     let s = c.args.layout in
     let width = width_of-some s.shape s.extent s.nodes s.some_elements s.some_nodes s.some_size in
-    let between = own_between s.shape s.extent s.nodes c.args.me c.args.first c.args.last c.loop-local.local s.some_nodes width c.requires.node
+    let between = own_between s.shape s.extent s.nodes c.args.me c.args.first c.args.last c.loop-local.local s.some_nodes width
+    c.requires.node
     c.requires.within (omega (arith, c.loop-local.auto.local, c.count_to-from.ensures))
     (omega (arith, c.loop-local-test.true, c.count_to-end.ensures)) in
     let f : ℕ → ℤ = λ k. pos (element_of s.shape s.extent s.nodes c.args.me k) -ℤ to_z w128 (of_z w128 c.args.shift) in
@@ -44,7 +46,8 @@ returns c =
     let s = c.args.layout in
     let shift : to_z w128 (of_z w128 c.args.shift) ≡ c.args.shift = omega (arith, ints) in
     let fewer = count_on-grows s.shape s.extent s.nodes c.args.me (c.args.first - 1) c.args.last (omega arith) in
-    let order : c.count_to-from.result < c.count_to-end.result + 1 = omega (arith, fewer, c.count_to-from.ensures, c.count_to-end.ensures) in
+    let order : c.count_to-from.result < c.count_to-end.result + 1 = omega (arith, fewer, c.count_to-from.ensures, c.count_to-end.ensures)
+    in
     let last : c.loop-local.local ≡ c.count_to-end.result = omega (arith, order, c.loop-local-test.false, c.loop-local.auto) in
     c.loop-local.invariant
     ∙ made_between (λ g. pos g -ℤ to_z w128 (of_z w128 c.args.shift)) s.shape s.extent s.nodes c.args.me c.args.first c.args.last

@@ -27,5 +27,6 @@ returns-in-Scattering-clause-right c =
 
 pub returns-in-Ended-clause-right : goal.returns-in-Ended-clause-right
 returns-in-Ended-clause-right c =
-    ended_right c.args.self.now c.stop-in-Ended.result c.requires.work (ap (λ (v : View NodeState). v.state.at.activity) (sym c.self.view_is)
+    ended_right c.args.self.now c.stop-in-Ended.result c.requires.work (ap (λ (v : View NodeState). v.state.at.activity)
+    (sym c.self.view_is)
     ∙ c.in-Ended.is)

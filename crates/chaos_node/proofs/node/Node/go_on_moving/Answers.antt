@@ -31,4 +31,5 @@ returns-clause-right c =
     (no_line v Nothing e c.new.result c.new.ensures
     (move_goes_on v m e (s.left - 1) (subst (λ x. EndsStage x m) (sym c.self.view_is) c.requires.ends) c.requires.some
     (one_back c.self.inside.left (has_left c.self.inside c.args.self.now c.self.view_is c.requires.work))
-    (subst (λ sizes. EntersMove s.session.now s.me s.at.execution m sizes (s.left - 1) e) c.as_slice.ensures c.in_ok-entered.ensures.right)))
+    (subst (λ sizes. EntersMove s.session.now s.me s.at.execution m sizes (s.left - 1) e) c.as_slice.ensures
+    c.in_ok-entered.ensures.right)))

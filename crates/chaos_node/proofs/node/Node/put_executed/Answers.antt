@@ -30,7 +30,8 @@ returns-in-Ok-clause-state c =
     let change = change_with c.args.parts c.args.executed in
     ap (λ (v : View NodeState). v.state) c.keep_undo.ensures
     ∙ state_committed change c.args.self.now.state c.record.new.self.state c.put.new.self.state
-    (c.in-Ok.ensures.ok ∙ ap (λ l. recorded change.entered.begins change.entered.at.execution l c.args.self.now.state) c.no_line-line.ensures)
+    (c.in-Ok.ensures.ok ∙ ap (λ l. recorded change.entered.begins change.entered.at.execution l c.args.self.now.state)
+    c.no_line-line.ensures)
     (c.put.ensures.state ∙ ap (λ (x : Change). put_in_place x c.record.new.self.state) (c.changes.ensures c.no_line-line.ensures))
 
 pub returns-in-Err-clause-err : goal.returns-in-Err-clause-err
