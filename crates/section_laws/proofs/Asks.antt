@@ -32,9 +32,9 @@ use Rattle.chaos_sched.specs.declared.item.Item.{Item}
 use Rattle.chaos_sched.specs.declared.need.Need.{Need}
 use Rattle.chaos_section.specs.Sections.{asked_at, asked_by, home_on, local_at, need_at, needs_of, own_on, owner_at, role_of}
 use Rattle.chaos_section.specs.declared.section.SectionReference.{SectionReference}
-use Rattle.chaos_sections.specs.SectionLoops.{is_section, section_loop, section_references}
-use Rattle.chaos_sections.proofs.Reached.{IsTold, uses_of_section}
-use Rattle.chaos_sections.proofs.Homed.{home_same, told_all}
+use Rattle.section_laws.specs.SectionLoops.{is_section, section_loop, section_references}
+use Rattle.section_laws.proofs.Reached.{IsTold, uses_of_section}
+use Rattle.section_laws.proofs.Homed.{home_same, told_all}
 
 -- ---- lists
 

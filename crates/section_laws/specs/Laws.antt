@@ -8,7 +8,7 @@ use Rattle.fd_program.specs.declared.loop_facts.LoopFacts.{LoopFacts}
 use Rattle.inspect_enter.specs.Preparing.{IsSettled}
 use Rattle.plan_loop.specs.LoopLetters.{iteration_row, owed_in}
 use Rattle.plan_loop.specs.declared.loop_phase.LoopPhase.TheVariants.{ScheduleAsk}
-use Rattle.chaos_sections.specs.SectionLoops.{is_section, section_loop}
+use Rattle.section_laws.specs.SectionLoops.{is_section, section_loop}
 
 -- its rows are its iterations
 abbrev pub SectionRows : Type 0

@@ -29,7 +29,7 @@ use Rattle.inspect_uses.specs.Standing.{natural_bounds, standing, within}
 use Rattle.plan_loop.specs.LoopLetters.{iteration_row}
 use Rattle.chaos_section.specs.Sections.{IsReaching, local_at, owner_at, role_of, shift_of, stands}
 use Rattle.chaos_section.specs.declared.section.SectionReference.{SectionReference}
-use Rattle.chaos_sections.specs.SectionLoops.{is_plain, is_section, is_sectional, section_references, shape_in}
+use Rattle.section_laws.specs.SectionLoops.{is_plain, is_section, is_sectional, section_references, shape_in}
 
 -- ---- what a test of a reference tells
 

@@ -1,4 +1,4 @@
-ghost use Rattle.chaos_sections.specs.Laws.{SectionAsks, SectionIsLoop, SectionIsReached, SectionRows};
+ghost use Rattle.section_laws.specs.Laws.{SectionAsks, SectionIsLoop, SectionIsReached, SectionRows};
 
 /// What chaos_section tells of a loop that is a section, against the loop's facts and owners.
 pub fn section_laws()

@@ -27,8 +27,8 @@ use Rattle.inspect_uses.specs.Accepted.{AreOwners, IsAccepted}
 use Rattle.chaos_section.specs.Sections.{IsReaching, IsSection, IsSectionReference, TellsHomes, home_by as home_told, home_on}
 use Rattle.chaos_section.specs.Sections.{iterations_on, owner_at}
 use Rattle.chaos_section.specs.declared.section.SectionReference.{SectionReference}
-use Rattle.chaos_sections.specs.SectionLoops.{is_section, no_reference, section_homes, section_loop, section_references}
-use Rattle.chaos_sections.proofs.Reached.{IsTold, IsUseOf, told, uses_of_section}
+use Rattle.section_laws.specs.SectionLoops.{is_section, no_reference, section_homes, section_loop, section_references}
+use Rattle.section_laws.proofs.Reached.{IsTold, IsUseOf, told, uses_of_section}
 
 -- ---- lists
 

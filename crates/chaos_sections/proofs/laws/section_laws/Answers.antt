@@ -1,7 +1,0 @@
-use Rattle.chaos_sections.proofs.Asks.{asks_are}
-use Rattle.chaos_sections.proofs.Reached.{section_rows}
-use Rattle.chaos_sections.proofs.Homed.{section_is_loop, section_is_reached}
-use Rattle.chaos_sections.proofs.laws.section_laws.Goals as goal
-
-pub returns : goal.returns
-returns c = record { rows = section_rows; reached = section_is_reached; iterations = section_is_loop; asks = asks_are }
