@@ -1,0 +1,9 @@
+pub mod Rows
+pub mod Clashes
+pub mod Votes
+pub mod Orders
+pub mod RowLaws
+pub mod ClashLaws
+pub mod LeastLaws
+pub mod PartLaws
+pub mod VoteLaws
