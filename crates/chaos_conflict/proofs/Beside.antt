@@ -1,7 +1,9 @@
 -- A pass over rows side by side, and over the rows of a letter.
-use Rattle.std.proofs.Common.{◌≡◌, ℕ, zero, suc, ◌+◌, ◌-◌, ◌*◌, ◌/◌, ◌<◌, ◌≤◌, ℤ, List, [], ◌∷◌, ◌++◌, length, drop, get_or, Option, Some, None}
+use Rattle.std.proofs.Common.{◌≡◌, ℕ, zero, suc, ◌+◌, ◌-◌, ◌*◌, ◌/◌, ◌<◌, ◌≤◌, ℤ, List, [], ◌∷◌, ◌++◌, length, drop, get_or, Option, None, map}
 use Rattle.std.proofs.Common.{refl, ap, sym, ◌∙◌, arith, drop-drop, length-drop, append_assoc, append-nil}
 use Rattle.std.specs.Option.{option_to_list}
+use Rattle.std.specs.List.{range_with_len}
+use Rattle.std.proofs.lemmas.List.FromFn.{map-range_with_len_more}
 use Rattle.chaos_conflict.specs.declared.conflict.Conflict.{Conflict}
 use Rattle.chaos_conflict.specs.declared.row.Row.{Row}
 use Rattle.chaos_conflict.specs.Rows.{row_in, rows_of}
@@ -10,8 +12,8 @@ use Rattle.chaos_conflict.specs.LeastLaws.{lesser_none, lesser_assoc}
 
 -- ---- side by side
 
-two_more : (rows : List Row) (at : ℕ) (d : Row) → at + 1 < length rows
-    → side_by_side (drop at rows) ≡ lesser (clash (get_or rows at d) (get_or rows (at + 1) d)) (side_by_side (drop (at + 1) rows))
+two_more : (rows : List Row) (at : ℕ) (d : Row) → suc at < length rows
+    → side_by_side (drop at rows) ≡ lesser (clash (get_or rows at d) (get_or rows (suc at) d)) (side_by_side (drop (suc at) rows))
 two_more [] at d h = absurd (omega (arith, h))
 two_more (x ∷ []) at d h = absurd (omega (arith, h))
 two_more (x ∷ y ∷ rows) zero d h = refl
@@ -29,14 +31,12 @@ pub beside_more : (rows : List Row) (at : ℕ) (d : Row) (least new total : Opti
     → lesser least (side_by_side (drop (at - 1) rows)) ≡ total → lesser new (side_by_side (drop (at + 1 - 1) rows)) ≡ total
 beside_more rows zero d least new total some within is before = absurd (omega (arith, some))
 beside_more rows (suc at) d least new total some within is before =
-    let next : at + 1 ≡ suc at = omega arith in
     let here : suc at - 1 ≡ at = omega arith in
     let there : suc at + 1 - 1 ≡ suc at = omega arith in
     ap (λ k. lesser new (side_by_side (drop k rows))) there
     ∙ ap (λ v. lesser v (side_by_side (drop (suc at) rows))) (is ∙ ap (λ k. lesser least (clash (get_or rows k d) (get_or rows (suc at) d))) here)
     ∙ lesser_assoc least (clash (get_or rows at d) (get_or rows (suc at) d)) (side_by_side (drop (suc at) rows))
-    ∙ ap (λ k. lesser least (lesser (clash (get_or rows at d) (get_or rows k d)) (side_by_side (drop k rows)))) (sym next)
-    ∙ ap (lesser least) (sym (two_more rows at d (omega (arith, within))))
+    ∙ ap (lesser least) (sym (two_more rows at d within))
     ∙ ap (λ k. lesser least (side_by_side (drop k rows))) (sym here)
     ∙ before
 
@@ -76,3 +76,11 @@ pub rows_all : (numbers : List ℤ) (at : ℕ) (rows total : List Row) → lengt
 rows_all numbers at rows total h e =
     let short : length (drop (3 * at) numbers) < 3 = omega (arith, length-drop (3 * at) numbers) in
     sym (append-nil rows) ∙ ap (λ l. rows ++ l) (sym (no_row (drop (3 * at) numbers) short)) ∙ e
+
+-- ---- a list made one by one
+
+pub one_more : {B : Type 0} (f : ℕ → B) (n : ℕ) (before after : List B) (x : B) → before ≡ map f (range_with_len 0 n)
+    → after ≡ before ++ x ∷ [] → x ≡ f n → after ≡ map f (range_with_len 0 (n + 1))
+one_more f n before after x so_far push is =
+    push ∙ ap (λ l. l ++ x ∷ []) so_far ∙ ap (λ y. map f (range_with_len 0 n) ++ y ∷ []) is
+    ∙ sym (map-range_with_len_more f 0 n n (omega arith))

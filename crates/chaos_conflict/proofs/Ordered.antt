@@ -1,5 +1,5 @@
 -- What a sort leaves is the rows in order.
-use Rattle.std.proofs.Common.{Less, Equal, ◌≡◌, Bool, true, false, ◌||◌, List, [], ◌∷◌, refl, ap, sym, subst, ◌∙◌, inl, inr, true≢false}
+use Rattle.std.proofs.Common.{Less, ◌≡◌, Bool, true, false, ◌||◌, List, [], ◌∷◌, refl, ap, sym, ◌∙◌, inl, inr, true≢false}
 use Rattle.std.specs.List.{AllByRecursion, list_any}
 use Rattle.std.specs.List.Sorted.{IsStrictlySortedBy}
 use Rattle.std.specs.Ordering.{eq_by_cmp, is_eq}
@@ -23,21 +23,22 @@ sorted (x ∷ rows) h = (each x rows h.0, sorted rows h.1)
 
 any_among : (q : Row) (rows : List Row) → list_any (eq_by_cmp row_cmp q) rows ≡ true → Among q rows
 any_among q [] e = absurd (true≢false (sym e))
-any_among q (x ∷ rows) e = by (eq_by_cmp row_cmp q x) refl e
+any_among q (x ∷ rows) e = by (eq_by_cmp row_cmp q x) refl e (any_among q rows)
   where
-    by : (b : Bool) → eq_by_cmp row_cmp q x ≡ b → (b || list_any (eq_by_cmp row_cmp q) rows) ≡ true → Among q (x ∷ rows)
-    by true same e = inl (row_cmp-IsAntisymmetric q x ((Equal-is (row_cmp q x)).0 same))
-    by false other e = inr (any_among q rows e)
+    by : (b : Bool) → eq_by_cmp row_cmp q x ≡ b → (b || list_any (eq_by_cmp row_cmp q) rows) ≡ true
+        → (list_any (eq_by_cmp row_cmp q) rows ≡ true → Among q rows) → Among q (x ∷ rows)
+    by true same e more = inl (row_cmp-IsAntisymmetric q x ((Equal-is (row_cmp q x)).0 same))
+    by false other e more = inr (more e)
 
 among_any : (q : Row) (rows : List Row) → Among q rows → list_any (eq_by_cmp row_cmp q) rows ≡ true
 among_any q [] a = absurd a
 among_any q (x ∷ rows) (inl e) =
     ap (λ b. b || list_any (eq_by_cmp row_cmp q) rows) (ap (λ y. is_eq (row_cmp q y)) (sym e) ∙ ap is_eq (tied_itself row_cmp_total q))
-among_any q (x ∷ rows) (inr a) = by (eq_by_cmp row_cmp q x)
+among_any q (x ∷ rows) (inr a) = either (eq_by_cmp row_cmp q x) (list_any (eq_by_cmp row_cmp q) rows) (among_any q rows a)
   where
-    by : (b : Bool) → (b || list_any (eq_by_cmp row_cmp q) rows) ≡ true
-    by true = refl
-    by false = among_any q rows a
+    either : (b m : Bool) → m ≡ true → (b || m) ≡ true
+    either true m e = refl
+    either false m e = e
 
 pub ascending_is : (rows : List Row) → ascending row_cmp rows ≡ in_order rows
 ascending_is rows =

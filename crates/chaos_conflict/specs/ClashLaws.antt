@@ -173,16 +173,14 @@ nearer x y rows c xy up front = by front.second
           second = second i;
           reference = front.reference i;
           element = front.element i;
-        } in
-        (
+        } in (
           k,
           clash_when x y (sym front.reference ∙ ap (λ (r : Row). r.reference) e) (sym front.element ∙ ap (λ (r : Row). r.element) e) rises,
           subst (λ d. is_less d k ≡ false) (sym same) (not_less_itself k),
         )
     by (inr a) =
         let z : Row = row_with c.reference c.element c.second in
-        let b = between x y z xy (all_among (λ z. is_before y z ≡ true) rows z up a) front.reference front.element in
-        (
+        let b = between x y z xy (all_among (λ z. is_before y z ≡ true) rows z up a) front.reference front.element in (
           record { first = x.iteration; second = y.iteration; reference = x.reference; element = x.element },
           clash_when x y b.reference b.element b.low,
           nearer_first c.first x.iteration c.second y.iteration _ front.first b.high,

@@ -1,8 +1,8 @@
 -- A test that tells where a total order answers `Less`.
-use Rattle.std.specs.Prelude.{◌≡◌, refl, ℕ, nat_lt, ℤ, int_lt, Bool, true, false, cond, ◌&&◌, ◌||◌, ◌==◌, ◌⊎◌}
+use Rattle.std.specs.Prelude.{◌≡◌, refl, ℕ, nat_lt, ℤ, int_lt, Bool, true, false, cond, ◌&&◌, ◌||◌, ◌==◌}
 use Rattle.std.specs.Ordering.{nat_cmp, int_cmp, int_eq, is_lt, is_gt, is_eq, ordering_then, ordering_reverse}
 use Rattle.std.specs.Cmp.{IsTotalOrder, upto, tied_itself}
-use Rattle.std.proofs.Common.{Ordering, Less, Equal, Greater, ap, sym, ◌∙◌, subst, true≢false, inl, inr}
+use Rattle.std.proofs.Common.{Ordering, Less, Equal, Greater, ap, sym, ◌∙◌, true≢false}
 
 -- ---- such a test by two keys
 

@@ -5,6 +5,8 @@
 #[cfg(test)]
 mod command;
 #[cfg(test)]
+mod conflict;
+#[cfg(test)]
 mod deref;
 #[cfg(test)]
 mod dist;
