@@ -1,5 +1,6 @@
 -- A pass over rows side by side, and over the rows of a letter.
-use Rattle.std.proofs.Common.{◌≡◌, ℕ, zero, suc, ◌+◌, ◌-◌, ◌*◌, ◌/◌, ◌<◌, ◌≤◌, ℤ, List, [], ◌∷◌, ◌++◌, length, drop, get_or, Option, None, map}
+use Rattle.std.proofs.Common.{◌≡◌, ℕ, zero, suc, ◌+◌, ◌-◌, ◌*◌, ◌/◌, ◌<◌, ◌≤◌, ℤ, List, [], ◌∷◌, ◌++◌, length, drop, get_or, Option, None}
+use Rattle.std.proofs.Common.{map}
 use Rattle.std.proofs.Common.{refl, ap, sym, ◌∙◌, arith, drop-drop, length-drop, append_assoc, append-nil}
 use Rattle.std.specs.Option.{option_to_list}
 use Rattle.std.specs.List.{range_with_len}
@@ -34,7 +35,8 @@ beside_more rows (suc at) d least new total some within is before =
     let here : suc at - 1 ≡ at = omega arith in
     let there : suc at + 1 - 1 ≡ suc at = omega arith in
     ap (λ k. lesser new (side_by_side (drop k rows))) there
-    ∙ ap (λ v. lesser v (side_by_side (drop (suc at) rows))) (is ∙ ap (λ k. lesser least (clash (get_or rows k d) (get_or rows (suc at) d))) here)
+    ∙ ap (λ v. lesser v (side_by_side (drop (suc at) rows)))
+    (is ∙ ap (λ k. lesser least (clash (get_or rows k d) (get_or rows (suc at) d))) here)
     ∙ lesser_assoc least (clash (get_or rows at d) (get_or rows (suc at) d)) (side_by_side (drop (suc at) rows))
     ∙ ap (lesser least) (sym (two_more rows at d within))
     ∙ ap (λ k. lesser least (side_by_side (drop k rows))) (sym here)

@@ -167,7 +167,8 @@ nearer x y rows c xy up front = by front.second
     by (inl e) =
         let second : c.second ≡ y.iteration = ap (λ (r : Row). r.iteration) e in
         let k : Conflict = record { first = x.iteration; second = y.iteration; reference = x.reference; element = x.element } in
-        let rises : x.iteration <ℤ y.iteration = subst (λ z. x.iteration <ℤ z) second (subst (λ z. z <ℤ c.second) front.first front.rises) in
+        let rises : x.iteration <ℤ y.iteration =
+        subst (λ z. x.iteration <ℤ z) second (subst (λ z. z <ℤ c.second) front.first front.rises) in
         let same : c ≡ k = λ i. record {
           first = front.first i;
           second = second i;
@@ -220,7 +221,8 @@ clash_tells x y k is = by (x.reference == y.reference && (x.element == y.element
     below r s e f i j h = grind (arith, ints, nat_tests)
 
     by : (b : Bool) → (x.reference == y.reference && (x.element == y.element && int_lt x.iteration y.iteration)) ≡ b
-        → (if b then Some c else None) ≡ Some k → (k ≡ c) × (x.reference ≡ y.reference) × (x.element ≡ y.element) × (x.iteration <ℤ y.iteration)
+        → (if b then Some c else None) ≡ Some k
+        → (k ≡ c) × (x.reference ≡ y.reference) × (x.element ≡ y.element) × (x.iteration <ℤ y.iteration)
     by true e is = (
       inside k c (sym is),
       same x.reference y.reference x.element y.element x.iteration y.iteration e,

@@ -13,7 +13,9 @@ is_less_at a b = nat_lt a.reference b.reference || (a.reference == b.reference &
 
 -- by the first iteration, the second, the reference and the element
 abbrev pub is_less : Conflict → Conflict → Bool
-is_less a b = int_lt a.first b.first || (int_eq a.first b.first && (int_lt a.second b.second || (int_eq a.second b.second && is_less_at a b)))
+is_less a b =
+    int_lt a.first b.first
+    || (int_eq a.first b.first && (int_lt a.second b.second || (int_eq a.second b.second && is_less_at a b)))
 
 -- the lesser of two votes, the first where neither is less
 abbrev pub lesser : Option Conflict → Option Conflict → Option Conflict

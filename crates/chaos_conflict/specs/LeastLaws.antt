@@ -41,7 +41,8 @@ lesser_assoc (Some a) (Some b) (Some c) = of_three a b c (is_less b a) (is_less 
 
 pub next_vote : (votes : List (Option Conflict)) (i : ℕ) (d least new : Option Conflict) → i < length votes
     → new ≡ lesser least (get_or votes i d)
-    → lesser least (least_clash_of (drop i votes)) ≡ least_clash_of votes → lesser new (least_clash_of (drop (i + 1) votes)) ≡ least_clash_of votes
+    → lesser least (least_clash_of (drop i votes)) ≡ least_clash_of votes
+    → lesser new (least_clash_of (drop (i + 1) votes)) ≡ least_clash_of votes
 next_vote votes i d least new inside e h =
     ap (λ v. lesser v (least_clash_of (drop (i + 1) votes))) e
     ∙ lesser_assoc least (get_or votes i d) (least_clash_of (drop (i + 1) votes))

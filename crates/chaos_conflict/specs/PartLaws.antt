@@ -1,5 +1,6 @@
 -- Of a list of conflicts that ascends, parted to nodes, the least of what each node has first is the first of all.
-use Rattle.std.specs.Prelude.{◌≡◌, refl, ℕ, zero, suc, ◌+◌, ◌<◌, ◌≤◌, ◌==◌, Bool, true, false, if◌then◌else◌, cond, List, [], ◌∷◌, map, filter}
+use Rattle.std.specs.Prelude.{◌≡◌, refl, ℕ, zero, suc, ◌+◌, ◌<◌, ◌≤◌, ◌==◌, Bool, true, false, if◌then◌else◌, cond, List, [], ◌∷◌, map}
+use Rattle.std.specs.Prelude.{filter}
 use Rattle.std.specs.Prelude.{Option, Some, None}
 use Rattle.std.specs.List.{AllByRecursion, range_with_len}
 use Rattle.std.proofs.Common.{ap, ◌∙◌, arith}
@@ -39,7 +40,8 @@ first_is_least key n (c ∷ cs) order below = at 0 n (omega arith) (omega (arith
     IsLater None = Unit {0}
     IsLater (Some d) = is_less d c ≡ false
 
-    head_later : (q : ℕ) (ds : List Conflict) → AllByRecursion (λ d. is_less c d ≡ true) ds → IsLater (first_clash (filter (λ d. key d == q) ds))
+    head_later : (q : ℕ) (ds : List Conflict) → AllByRecursion (λ d. is_less c d ≡ true) ds
+        → IsLater (first_clash (filter (λ d. key d == q) ds))
     head_later q [] h = tt
     head_later q (d ∷ ds) h = by (key d == q) (head_later q ds h.1)
       where

@@ -1,5 +1,6 @@
 -- A list of rows that ascends, each once, is determined by what it has.
-use Rattle.std.specs.Prelude.{◌≡◌, refl, ℕ, nat_lt, ◌<◌, ◌≤◌, ◌^◌, pos, Bool, true, false, ◌&&◌, if◌then◌else◌, List, [], ◌∷◌, ◌++◌, fold, ◌⊎◌}
+use Rattle.std.specs.Prelude.{◌≡◌, refl, ℕ, nat_lt, ◌<◌, ◌≤◌, ◌^◌, pos, Bool, true, false, ◌&&◌, if◌then◌else◌, List, [], ◌∷◌, ◌++◌, fold}
+use Rattle.std.specs.Prelude.{◌⊎◌}
 use Rattle.std.specs.Prelude.{Some, None}
 use Rattle.std.specs.List.{AllByRecursion, flat_map}
 use Rattle.std.specs.Option.{option_to_list}

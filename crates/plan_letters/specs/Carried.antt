@@ -6,7 +6,7 @@ use Rattle.std.specs.List.{list_any}
 use Rattle.std.specs.Option.{option_map_or}
 use Rattle.chaos_letter.specs.declared.kind.Kind.{Kind}
 use Rattle.chaos_letter.specs.declared.kind.Kind.TheVariants.{MapPairs, PageCounts, DerefAsk, DerefAnswer, IndexAsk, IndexValues, Vote}
-use Rattle.chaos_letter.specs.declared.kind.Kind.TheVariants.{Iterations, ScheduleAsk, Gather, Scatter, Remap}
+use Rattle.chaos_letter.specs.declared.kind.Kind.TheVariants.{Iterations, ScheduleAsk, Claims, ClashVote, Gather, Scatter, Remap}
 use Rattle.chaos_letter.specs.declared.kind.Kind.TheVariants as kind
 use Rattle.chaos_letter.specs.declared.letter.Letter.{Letter}
 use Rattle.fd_program.specs.Met.{is_map}
@@ -32,6 +32,8 @@ is_kind IndexValues IndexValues = true
 is_kind Vote Vote = true
 is_kind Iterations Iterations = true
 is_kind ScheduleAsk ScheduleAsk = true
+is_kind Claims Claims = true
+is_kind ClashVote ClashVote = true
 is_kind Gather Gather = true
 is_kind Scatter Scatter = true
 is_kind Remap Remap = true

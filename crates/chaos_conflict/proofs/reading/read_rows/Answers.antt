@@ -13,7 +13,8 @@ loop-at-preserved c =
     ap (λ l. l ++ rows_of (drop (3 * (at + 1)) numbers))
     (c.in_ok-note.ensures
     ∙ ap (λ i. c.loop-at.rows.items ++ option_to_list i) c.first_row-row.ensures
-    ∙ ap (λ (l : List ℤ). c.loop-at.rows.items ++ option_to_list (row_in l)) (take_all (length numbers - 3 * at) (drop (3 * at) numbers) few))
+    ∙ ap (λ (l : List ℤ). c.loop-at.rows.items ++ option_to_list (row_in l))
+    (take_all (length numbers - 3 * at) (drop (3 * at) numbers) few))
     ∙ rows_more numbers at c.loop-at.rows.items (c.args.rows.now.items ++ rows_of numbers) (omega arith) c.loop-at.invariant
 
 pub returns : goal.returns
