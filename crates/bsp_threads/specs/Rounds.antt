@@ -2,7 +2,7 @@
 use Rattle.std.specs.Prelude.{◌≡◌, ◌≢◌, ℕ, List, Some, slice_get}
 use Rattle.bsp_core.specs.Views.{View}
 use Rattle.bsp_mail.specs.declared.queues.Queues.{Queues}
-use Rattle.bsp_threads.specs.declared.seat.Standing.TheVariants.{Going, Finished, Strayed}
+use Rattle.bsp_threads.specs.declared.seat.Standing.TheVariants.{Going, Finished, OutOfMemory, Strayed}
 use Rattle.bsp_threads.specs.declared.seat.DriveSeat.{DriveSeat}
 use Rattle.bsp_threads.specs.Seats.{HasDone, IsReady}
 use Rattle.bsp_threads.specs.Drives.{DriveEnds}
@@ -25,5 +25,11 @@ module _ {N : Type 0} where
   abbrev pub HasNotStrayed : DriveSeat N → Type 0
   HasNotStrayed s = s.standing ≢ Strayed
 
+  abbrev pub HasMemory : DriveSeat N → Type 0
+  HasMemory s = s.standing ≢ OutOfMemory
+
   abbrev pub SomeStrayed : List (DriveSeat N) → Type 0
   SomeStrayed seats = (j : ℕ) × (s : DriveSeat N) × (slice_get seats j ≡ Some s) × (s.standing ≡ Strayed)
+
+  abbrev pub SomeGoing : List (DriveSeat N) → Type 0
+  SomeGoing seats = (j : ℕ) × (s : DriveSeat N) × (slice_get seats j ≡ Some s) × (s.standing ≡ Going)

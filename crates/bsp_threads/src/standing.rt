@@ -1,10 +1,10 @@
 //! Rounds over all seats, until they end.
-ghost use Rattle.std.specs.Prelude.{◌≡◌, ◌≢◌};
+ghost use Rattle.std.specs.Prelude.{◌≡◌, ◌≢◌, ◌⊎◌};
 ghost use Rattle.std.specs.List.{All, AllZip};
 ghost use Rattle.bsp_core.specs.Views.{WorksFor};
-ghost use Rattle.bsp_threads.specs.declared.seat.Standing.TheVariants.{Going, Finished, Strayed};
+ghost use Rattle.bsp_threads.specs.declared.seat.Standing.TheVariants.{Going, Finished, OutOfMemory, Strayed};
 ghost use Rattle.bsp_threads.specs.Seats.{IsReady};
-ghost use Rattle.bsp_threads.specs.Rounds.{HasGone, HasFinished, HasNotStrayed, SomeStrayed};
+ghost use Rattle.bsp_threads.specs.Rounds.{HasGone, HasFinished, HasMemory, HasNotStrayed, SomeGoing, SomeStrayed};
 
 use crate::round::round;
 use crate::{DriveSeat, Standing};
@@ -19,6 +19,8 @@ fn joined(all: Standing, one: Standing) -> Standing
     requires straight { (all ≢ Strayed) × (one ≢ Strayed) }
     ensures straight { result ≢ Strayed }
     ensures finished { result ≡ Finished → (all ≡ Finished) × (one ≡ Finished) }
+    ensures memory { result ≢ OutOfMemory → (all ≢ OutOfMemory) × (one ≢ OutOfMemory) }
+    ensures going { result ≡ Going → (all ≡ Going) ⊎ (one ≡ Going) }
 {
     match (all, one) {
         (all, Standing::Finished) => all,
@@ -27,11 +29,14 @@ fn joined(all: Standing, one: Standing) -> Standing
     }
 }
 
-/// How all seats stand: `Strayed` where one has, and `Finished` only where all are.
+/// How all seats stand: `Strayed` where one has, `Finished` only where all are, and `Going` only where one is
+/// and no node wants memory: else the rounds would never end.
 fn stand_together<N>(seats: &[DriveSeat<N>]) -> Standing
     ensures finished { result ≡ Finished → All HasFinished seats.now }
     ensures strayed { result ≡ Strayed → SomeStrayed seats.now }
     ensures others { result ≢ Strayed → All HasNotStrayed seats.now }
+    ensures memory { result ≢ Strayed → result ≢ OutOfMemory → All HasMemory seats.now }
+    ensures going { result ≡ Going → SomeGoing seats.now }
 {
     let mut all = Standing::Finished;
     for seat in seats {
