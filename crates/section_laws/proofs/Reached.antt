@@ -18,18 +18,18 @@ use Rattle.fd_program.specs.Homes.{owner_met, uses_at}
 use Rattle.fd_program.specs.Met.{is_map, layout_for, local_met}
 use Rattle.fd_program.specs.Places.{decomposition_of}
 use Rattle.fd_program.specs.Stores.{array_at, number_at}
-use Rattle.fd_program.specs.Uses.{is_met, read_of, subscript_of, use_of, uses_from, index_value}
+use Rattle.fd_program.specs.Uses.{is_met, is_plain, read_of, subscript_of, use_of, uses_from, index_value}
 use Rattle.fd_program.specs.declared.loop_facts.LoopFacts.{LoopFacts}
 use Rattle.fd_program.specs.declared.loop_use.Use.{Use}
 use Rattle.fd_program.specs.declared.reference.CheckedSubscript.{CheckedSubscript}
-use Rattle.fd_program.specs.declared.reference.CheckedSubscript.TheVariants.{Plain, Through, Scalar}
+use Rattle.fd_program.specs.declared.reference.CheckedSubscript.TheVariants.{Plain, Through, Twice, Scalar}
 use Rattle.fd_program.specs.declared.reference.Reference.{Reference}
 use Rattle.inspect_uses.specs.Accepted.{AreOwners, IsAccepted, IsDealt, IsDealtBy}
 use Rattle.inspect_uses.specs.Standing.{natural_bounds, standing, within}
 use Rattle.plan_loop.specs.LoopLetters.{iteration_row}
 use Rattle.chaos_section.specs.Sections.{IsReaching, local_at, owner_at, role_of, shift_of, stands}
 use Rattle.chaos_section.specs.declared.section.SectionReference.{SectionReference}
-use Rattle.section_laws.specs.SectionLoops.{is_plain, is_section, is_sectional, section_references, shape_in}
+use Rattle.section_laws.specs.SectionLoops.{is_section, is_sectional, section_references, shape_in}
 
 -- ---- what a test of a reference tells
 
@@ -61,6 +61,7 @@ role_told Target e = refl
 plain_told : (s : CheckedSubscript) (i add : ℤ) (before : Option ℤ) → is_plain s ≡ true → subscript_of s i add before ≡ Some (i +ℤ add)
 plain_told (Plain terms) i add before e = refl
 plain_told (Through index_array at inner_add terms) i add before e = absurd (let h : false ≡ true = e in cc)
+plain_told (Twice outer at inner inner_at first_add second_add terms) i add before e = absurd (let h : false ≡ true = e in cc)
 plain_told (Scalar scalar) i add before e = absurd (let h : false ≡ true = e in cc)
 
 -- ---- a reference and what it is at iteration i

@@ -1,5 +1,5 @@
 -- The loops that are sections, and what chaos_section needs of one.
-use Rattle.std.specs.Prelude.{ℕ, ◌+◌, ◌-◌, pos, Bool, true, false, not, ◌&&◌, List, [], ◌∷◌, slice_get, unwrap_or}
+use Rattle.std.specs.Prelude.{ℕ, ◌+◌, ◌-◌, pos, Bool, false, not, ◌&&◌, List, [], ◌∷◌, slice_get, unwrap_or}
 use Rattle.std.specs.List.{list_all}
 use Rattle.chaos_dist.specs.declared.shape.Shape.{Shape}
 use Rattle.chaos_dist.specs.declared.shape.Shape.TheVariants.{Block}
@@ -9,11 +9,10 @@ use Rattle.fd_words.specs.Roles.{is_index, is_target}
 use Rattle.fd_program.specs.Homes.{first_target}
 use Rattle.fd_program.specs.Met.{is_map, layout_for}
 use Rattle.fd_program.specs.Stores.{array_at, number_at}
+use Rattle.fd_program.specs.Uses.{is_plain}
 use Rattle.fd_program.specs.declared.loop_facts.HomeRule.{HomeRule}
 use Rattle.fd_program.specs.declared.loop_facts.HomeRule.TheVariants.{Owner, Most}
 use Rattle.fd_program.specs.declared.loop_facts.LoopFacts.{LoopFacts}
-use Rattle.fd_program.specs.declared.reference.CheckedSubscript.{CheckedSubscript}
-use Rattle.fd_program.specs.declared.reference.CheckedSubscript.TheVariants.{Plain, Through, Scalar}
 use Rattle.fd_program.specs.declared.reference.Reference.{Reference}
 use Rattle.chaos_section.specs.declared.section.SectionHomes.{SectionHomes}
 use Rattle.chaos_section.specs.declared.section.SectionHomes.TheVariants as homes
@@ -21,11 +20,6 @@ use Rattle.chaos_section.specs.declared.section.SectionLoop.{SectionLoop}
 use Rattle.chaos_section.specs.declared.section.SectionReference.{SectionReference}
 
 -- ---- which loops are sections
-
-abbrev pub is_plain : CheckedSubscript → Bool
-is_plain (Plain terms) = true
-is_plain (Through index_array at inner_add terms) = false
-is_plain (Scalar scalar) = false
 
 -- no index reference, a plain subscript, a regular layout
 abbrev pub is_sectional : LoopFacts → Reference → Bool
