@@ -5,7 +5,8 @@ RUN = crates/chaosrun/out/chaosrun
 BISECT = crates/chaosbisect/out/chaosbisect
 APPEND = crates/chaosappend/out/chaosappend
 .DEFAULT_GOAL := help
-.PHONY: help demo programs install examples bench chart test
+PROGRAM ?= chaosplay
+.PHONY: help demo try programs install examples bench chart test
 
 # $(call needs,TOOL,WHAT FOR): ends with one line where the tool is missing
 needs = @command -v $(1) >/dev/null 2>&1 || { echo "$(1) is missing: $(2)" >&2; exit 1; }
@@ -19,6 +20,11 @@ help: ## this list
 demo: ## builds the programs unproved and runs examples: two minutes to the first text, six in all
 	$(rt)
 	@examples/demo.sh
+
+try: ## runs SOURCE=FILE, with the csv files beside it, with WORDS=".." and unproved: a minute or two, then seconds
+	$(rt)
+	$(python)
+	@tools/try.py "$(PROGRAM)" "$(FOLDER)" "$(SOURCE)" $(WORDS)
 
 programs: ## proves and builds all programs (about 65 processor minutes), and tells where they stand
 	$(rt)
