@@ -37,11 +37,12 @@ install: ## puts the programs that stand and their manual pages into PREFIX=/usr
 	install -m 755 $(PLAY) $(RUN) $(BISECT) $(APPEND) "$(DESTDIR)$(PREFIX)/bin"
 	install -m 644 docs/chaosrun.1 docs/chaosplay.1 docs/chaosbisect.1 docs/chaosappend.1 "$(DESTDIR)$(PREFIX)/share/man/man1"
 
-examples: ## runs every example, every program and command of the pages, and every message, and compares what they write
+examples: ## runs every example, every program, command and message of the pages, and the tools, and compares what they write
 	$(python)
 	$(stand)
 	@examples/run.py
 	@docs/run.py
+	@tools/run.py
 
 bench: ## times the programs that stand on large inputs, beside a Fortran program, and compares every text
 	$(python)

@@ -1,4 +1,4 @@
-"""What the tools share: a file's lines with their places, faults, numbers scaled to integers, parts, and files written all or not at all."""
+"""What the tools share: a file's lines with their places, faults, numbers scaled to integers, parts, files written all or not at all."""
 import argparse
 import os
 import re
@@ -104,7 +104,8 @@ class Scale:
         else:
             number = self.nearest(source, text, what)
         if not LEAST <= number <= GREATEST:
-            raise source.fault(f"{what} is {shown(text)}, which times {self.factor} is no signed 64-bit number")
+            times = f" times {self.factor}" if self.factor > 1 else ""
+            raise source.fault(f"{what} is {shown(text)}, which{times} is no signed 64-bit number")
         return number
 
     def nearest(self, source, text, what):
@@ -131,15 +132,18 @@ class Scale:
         return f"{what} times {self.factor}: {lost}"
 
 
-def values(name, count, scale):
-    """The numbers of a file of one number a line, for the elements of X."""
+def values(name, count, factor):
+    """The numbers of a file of one number a line, for the elements of X: as they are where all are whole, else times the factor."""
     source = Source(name, "#")
-    found = []
+    texts = []
     for _ in range(count):
-        (text,) = source.fields(f"value {len(found) + 1} of {count}", 1)
-        found.append(scale.number(source, text, "a value"))
+        (text,) = source.fields(f"value {len(texts) + 1} of {count}", 1)
+        texts.append((source.at, text))
     source.ends(f"the {count} values")
-    return found
+    scale, numbers = Scale(1 if all(WHOLE.match(text) for _, text in texts) else factor), []
+    for source.at, text in texts:
+        numbers.append(scale.number(source, text, "a value"))
+    return numbers, [scale.told("numbers of X")] if scale.factor > 1 else []
 
 
 def in_blocks(count, parts):
@@ -150,7 +154,8 @@ def in_blocks(count, parts):
 def bisecting(given):
     """The program that bisects, if it stands: the one that is named, a proved one, one that `make try` built, or one on the path."""
     named = given or os.environ.get("CHAOSBISECT")
-    stand = [named] if named else [f"{TOP}/crates/chaosbisect/out/chaosbisect", f"{TOP}/.try/chaosbisect", shutil.which("chaosbisect") or ""]
+    stand = [f"{TOP}/crates/chaosbisect/out/chaosbisect", f"{TOP}/.try/chaosbisect", shutil.which("chaosbisect") or ""]
+    stand = [named] if named else stand
     return next((os.path.abspath(it) for it in stand if os.access(it, os.X_OK) and not os.path.isdir(it)), None)
 
 
@@ -208,15 +213,17 @@ def number_in(least, most):
     return taken
 
 
-def words(about, *files):
-    """The words that every tool takes."""
+def words(about, name, *files):
+    """The words that every tool takes; the program is called so where nothing else is said."""
     told = argparse.ArgumentParser(description=about, formatter_class=argparse.RawDescriptionHelpFormatter, allow_abbrev=False)
-    for name, many, said in files:
-        told.add_argument(name, nargs=many, help=said)
-    told.add_argument("--to", default=".", metavar="FOLDER", help="where the csv files and the program are written; the working folder where it isn't said")
+    for word, many, said in files:
+        told.add_argument(word, nargs=many, help=said)
+    told.add_argument("--name", default=name, metavar="NAME", help=f"the program is NAME.fd; {name}.fd where it isn't said")
+    told.add_argument("--to", default=".", metavar="FOLDER", help="where all files are written; the working folder where it isn't said")
     told.add_argument("--values", metavar="FILE", help="the numbers of X before the run, one a line")
-    told.add_argument("--scale", type=number_in(1, 10**15), default=1_000_000, metavar="FACTOR", help="real numbers are taken times this; 1000000 where it isn't said")
-    told.add_argument("--parts", type=number_in(1, 64), default=4, metavar="N", help="how many parts the map has; 4 where it isn't said")
+    factor = {"type": number_in(1, 10**15), "default": 1_000_000}
+    told.add_argument("--scale", **factor, metavar="FACTOR", help="real numbers are taken times this (1000000)")
+    told.add_argument("--parts", type=number_in(1, 64), default=4, metavar="N", help="how many parts the map has (4)")
     return told
 
 

@@ -99,13 +99,13 @@ def program(name, height, width, many, has_values, times):
 
 
 def make(given):
-    source, scale, of_x = common.Source(given.file, "%"), common.Scale(given.scale), common.Scale(given.scale)
+    source, scale = common.Source(given.file, "%"), common.Scale(given.scale)
     kind, is_symmetric = header(source)
     height, width, many = sizes(source, is_symmetric, given.times)
     rows, columns, numbers = entries(source, kind, is_symmetric, height, width, many, scale)
-    x = common.values(given.values, width, of_x) if given.values else [1] * width
+    x, lost = common.values(given.values, width, given.scale) if given.values else ([1] * width, [])
     files = {
-        "product.fd": common.lines(*program(common.named(given.file), height, width, len(rows), bool(numbers), given.times)),
+        f"{given.name}.fd": common.lines(*program(common.named(given.file), height, width, len(rows), bool(numbers), given.times)),
         "x.csv": common.column(x),
         "m.csv": common.column(parted(height, rows, given.parts)),
         "r.csv": common.column(rows),
@@ -113,15 +113,14 @@ def make(given):
     }
     if numbers:
         files["v.csv"] = common.column(numbers)
-    said = [f"product.fd: {height} rows, {width} columns, {len(rows)} entries; m.csv has rows in {given.parts} parts"]
+    said = [f"{given.name}.fd: {height} rows, {width} columns, {len(rows)} entries; m.csv has rows in {given.parts} parts"]
     said += [scale.told("values")] if kind == "real" else []
-    said += [of_x.told("numbers of X")] if given.values else []
-    return files, said
+    return files, said + lost
 
 
 def main():
-    told = common.words(__doc__, ("file", None, "the Matrix Market file"))
-    told.add_argument("--times", type=common.number_in(1, 1000), default=1, metavar="K", help="products one after another, each of the vector before; 1 where it isn't said")
+    told = common.words(__doc__, "product", ("file", None, "the Matrix Market file"))
+    told.add_argument("--times", type=common.number_in(1, 1000), default=1, metavar="K", help="products one after another (1)")
     return common.ran(make, told)
 
 

@@ -243,18 +243,19 @@ def parts_of(mesh, given):
     how, by_hand = common.bisecting(given.bisect), f"chaosbisect {parts} {mesh.count()} 4 {' '.join(names)} >m.csv"
     if how:
         return common.bisected(how, parts, axes), f"m.csv has {parts} parts by chaosbisect"
-    return common.in_blocks(mesh.count(), parts), f"m.csv has blocks, since chaosbisect doesn't stand here; once make programs or make try has built it: {by_hand}"
+    said = f"m.csv has blocks, since chaosbisect doesn't stand here; once make programs or make try has built it: {by_hand}"
+    return common.in_blocks(mesh.count(), parts), said
 
 
 def make(given):
-    scale, of_x = common.Scale(given.scale), common.Scale(given.scale)
+    scale = common.Scale(given.scale)
     mesh, source = read(given, scale)
     elements = highest(mesh, source)
     edges, points = edges_of(elements, source), mesh.count()
-    x = common.values(given.values, points, of_x) if given.values else range(1, points + 1)
+    x, lost = common.values(given.values, points, given.scale) if given.values else (range(1, points + 1), [])
     parts, how = parts_of(mesh, given)
     files = {
-        "mesh.fd": common.lines(*program(common.named(given.files[0]), points, len(edges), elements, given.steps)),
+        f"{given.name}.fd": common.lines(*program(common.named(given.files[0]), points, len(edges), elements, given.steps)),
         "x.csv": common.column(x),
         "m.csv": common.column(parts),
         "a.csv": common.column(it[0] for it in edges),
@@ -266,15 +267,14 @@ def make(given):
         for at in range(KINDS[kind][2]):
             files[f"{KINDS[kind][0].lower()}{at + 1}.csv"] = common.column(it[at] for it in of)
     counted = ", ".join(f"{len(of)} of kind {KINDS[it][0]}" for it, of in elements.items())
-    said = [f"mesh.fd: {points} points, {len(edges)} edges, elements: {counted}", how, scale.told("coordinates"), *mesh.said]
-    said += [of_x.told("numbers of X")] if given.values else []
-    return files, said
+    said = [f"{given.name}.fd: {points} points, {len(edges)} edges, elements: {counted}", how, scale.told("coordinates"), *mesh.said]
+    return files, said + lost
 
 
 def main():
-    told = common.words(__doc__, ("files", "+", "FILE.node FILE.ele, or FILE.msh"))
+    told = common.words(__doc__, "mesh", ("files", "+", "FILE.node FILE.ele, or FILE.msh"))
     told.add_argument("--bisect", metavar="PROGRAM", help="the program chaosbisect; where it isn't said one that stands is looked for")
-    told.add_argument("--steps", type=common.number_in(1, 1000), default=10, metavar="K", help="sweeps; 10 where it isn't said")
+    told.add_argument("--steps", type=common.number_in(1, 1000), default=10, metavar="K", help="sweeps (10)")
     return common.ran(make, told)
 
 

@@ -1,7 +1,7 @@
 #!/usr/bin/env python3
 """From a graph in METIS' format to csv files and a program, sweep.fd, of sweeps over its edges.
 
-Taken: the line of counts with any of its formats (sizes, weights of points, weights of edges). docs/FILES.md tells what is written.
+Taken: any format that the line of counts may tell (sizes, weights of points, of edges). docs/FILES.md tells what is written.
 """
 import sys
 
@@ -9,7 +9,7 @@ import common
 
 
 def counts(source):
-    """How many points and edges there are, the line that says so, whether edges have weights, and how many sizes and weights a point has."""
+    """How many points and edges there are, the line that says so, whether edges have weights, how many sizes and weights a point has."""
     found = source.fields("the line of counts")
     if not 2 <= len(found) <= 4:
         raise source.fault(f"{len(found)} fields where the line of counts has 2 to 4")
@@ -25,7 +25,7 @@ def counts(source):
 
 
 def neighbours(source, points, of_edges, sizes, many):
-    """The first weight of each point, and for each edge, from either end, its weight and the line."""
+    """The first weight of each point; for each edge, from either end, its weight and the line."""
     first, found = [], {}
     for point in range(1, points + 1):
         fields = point_fields(source, point, points)
@@ -62,7 +62,8 @@ def edges_of(source, edges, counted_at, found):
         back = found.get((other, point))
         if back is None or back[0] != weight:
             source.at = at
-            raise source.fault(f"point {point} has neighbour {other}, " + (f"which hasn't neighbour {point}" if back is None else f"with weight {weight}, and back it is {back[0]}"))
+            why = f"which hasn't neighbour {point}" if back is None else f"with weight {weight}, and back it is {back[0]}"
+            raise source.fault(f"point {point} has neighbour {other}, {why}")
         if point < other:
             told.append((point, other, weight))
     if len(told) != edges:
@@ -109,14 +110,14 @@ def program(name, points, edges, has_weights, steps):
 
 
 def make(given):
-    source, of_x = common.Source(given.file, "%"), common.Scale(given.scale)
+    source = common.Source(given.file, "%")
     points, edges, counted_at, of_edges, sizes, many = counts(source)
     first, found = neighbours(source, points, of_edges, sizes, many)
     source.ends(f"those of the {points} points")
     told = edges_of(source, edges, counted_at, found)
-    x = common.values(given.values, points, of_x) if given.values else first
+    x, lost = common.values(given.values, points, given.scale) if given.values else (first, [])
     files = {
-        "sweep.fd": common.lines(*program(common.named(given.file), points, edges, of_edges, given.steps)),
+        f"{given.name}.fd": common.lines(*program(common.named(given.file), points, edges, of_edges, given.steps)),
         "x.csv": common.column(x),
         "m.csv": common.column(parts_in(given.map, points) if given.map else common.in_blocks(points, given.parts)),
         "a.csv": common.column(it[0] for it in told),
@@ -124,15 +125,15 @@ def make(given):
     }
     if of_edges:
         files["w.csv"] = common.column(it[2] for it in told)
-    said = [f"sweep.fd: {points} points, {edges} edges; m.csv has the parts {f'of {given.map}' if given.map else f'in {given.parts} blocks'}"]
-    said += [of_x.told("numbers of X")] if given.values else []
-    return files, said
+    parts = f"the parts of {given.map}" if given.map else f"{given.parts} blocks"
+    said = [f"{given.name}.fd: {points} points, {edges} edges; m.csv has {parts}"]
+    return files, said + lost
 
 
 def main():
-    told = common.words(__doc__, ("file", None, "the graph"))
+    told = common.words(__doc__, "sweep", ("file", None, "the graph"))
     told.add_argument("--map", metavar="FILE", help="the part of each point, one a line from 0, as partitioning programs write it")
-    told.add_argument("--steps", type=common.number_in(1, 1000), default=10, metavar="K", help="sweeps; 10 where it isn't said")
+    told.add_argument("--steps", type=common.number_in(1, 1000), default=10, metavar="K", help="sweeps (10)")
     return common.ran(make, told)
 
 

@@ -3,8 +3,8 @@
 
   tools/picture.py FOLDER FILE.svg [NODES]
 
-FOLDER has product.fd, sweep.fd or mesh.fd with its csv files. Who sends what to whom is counted here from these files by a plain loop, by
-the rule `owner`: an iteration runs where its first target stands, and needs each element of another node once.
+FOLDER has the csv files of one tool. Who sends what to whom is counted from these files by a plain loop, by the rule `owner`: an iteration
+runs where its first target stands, and its node needs each element of another node once.
 """
 import math
 import os
@@ -55,7 +55,7 @@ def of_sweep(folder, nodes):
 
 
 def traffic(folder, nodes):
-    return (of_product if have(folder, "product.fd") else of_sweep)(folder, nodes)
+    return (of_product if have(folder, "r.csv") else of_sweep)(folder, nodes)
 
 
 def text(x, y, said, size=13, more=""):
@@ -76,7 +76,8 @@ def arrow(a, b, bend, stroke="#444"):
     long = math.hypot(x2 - x1, y2 - y1)
     across = (y1 - y2) / long, (x2 - x1) / long
     middle = (x1 + x2) / 2 + bend * across[0], (y1 + y2) / 2 + bend * across[1]
-    drawn = f'<path d="M{x1:.1f} {y1:.1f} Q{middle[0]:.1f} {middle[1]:.1f} {x2:.1f} {y2:.1f}" fill="none" stroke="{stroke}" marker-end="url(#head)"/>'
+    path = f"M{x1:.1f} {y1:.1f} Q{middle[0]:.1f} {middle[1]:.1f} {x2:.1f} {y2:.1f}"
+    drawn = f'<path d="{path}" fill="none" stroke="{stroke}" marker-end="url(#head)"/>'
     return drawn, ((x1 + x2) / 4 + middle[0] / 2, (y1 + y2) / 4 + middle[1] / 2)
 
 
@@ -88,9 +89,11 @@ def shortened(a, b, by):
 
 
 def picture(width, height, drawn):
-    head = '<defs><marker id="head" markerWidth="8" markerHeight="8" refX="7" refY="3" orient="auto"><path d="M0 0 L7 3 L0 6 z" fill="#444"/></marker></defs>'
-    opened = f'<svg xmlns="http://www.w3.org/2000/svg" width="{width}" height="{height}" viewBox="0 0 {width} {height}" font-family="sans-serif">'
-    return "\n".join([opened, f'<rect width="{width}" height="{height}" fill="white"/>', head, *drawn, "</svg>"]) + "\n"
+    shape = '<path d="M0 0 L7 3 L0 6 z" fill="#444"/>'
+    head = f'<marker id="head" markerWidth="8" markerHeight="8" refX="7" refY="3" orient="auto">{shape}</marker>'
+    size = f'width="{width}" height="{height}"'
+    opened = f'<svg xmlns="http://www.w3.org/2000/svg" {size} viewBox="0 0 {width} {height}" font-family="sans-serif">'
+    return "\n".join([opened, f'<rect width="{width}" height="{height}" fill="white"/>', f"<defs>{head}</defs>", *drawn, "</svg>"]) + "\n"
 
 
 def senders(folder, nodes, left):
@@ -152,7 +155,7 @@ def drawn_entries(folder, nodes, left):
 
 def main(folder, file, nodes="4"):
     nodes = int(nodes)
-    parts = drawn_entries if have(folder, "product.fd") else drawn_edges
+    parts = drawn_entries if have(folder, "r.csv") else drawn_edges
     with open(file, "w", encoding="ascii") as out:
         out.write(picture(760, 400, [*parts(folder, nodes, 20), *senders(folder, nodes, 410)]))
 

@@ -1,5 +1,5 @@
 #!/usr/bin/env python3
-"""Tests the tools: each malformed file gets its line, and what they make of others runs by chaosrun with the text of a loop in plain Python.
+"""Tests the tools: each malformed file gets its line, and what they make of others runs by chaosrun with the text of a loop in Python.
 
   tools/run.py              all
   tools/run.py --small      without the matrix of 1,000,000 entries and the mesh of 300,200 edges
@@ -47,7 +47,8 @@ def row(name, numbers):
 
 
 def tool(name, words, room):
-    return subprocess.run([sys.executable, "-B", f"{HERE}/{name}", *words, "--to", "made"], cwd=room, stdout=subprocess.PIPE, stderr=subprocess.PIPE, text=True)
+    whole = [sys.executable, "-B", f"{HERE}/{name}", *words, "--to", "made"]
+    return subprocess.run(whole, cwd=room, stdout=subprocess.PIPE, stderr=subprocess.PIPE, text=True)
 
 
 def write(room, name, text):
@@ -95,7 +96,8 @@ def main_loop(room, source):
 
 
 def report(at, executed, gathered, scattered):
-    return f"loop {at}: executed {executed}, inspected 1, gathered {executed * sum(gathered.values())}, scattered {executed * sum(scattered.values())}\n"
+    many = [executed * sum(it.values()) for it in (gathered, scattered)]
+    return f"loop {at}: executed {executed}, inspected 1, gathered {many[0]}, scattered {many[1]}\n"
 
 
 def compared(name, room, source, wanted, executed, every=(1, 4, 7)):
@@ -109,8 +111,10 @@ def compared(name, room, source, wanted, executed, every=(1, 4, 7)):
         told = report(at, executed, *picture.traffic(f"{room}/made", nodes))
         if ran.returncode or text != wanted or told not in ran.stdout:
             wrong += 1
-            print(f"{name} on {nodes} nodes: status {ran.returncode}, wrote\n{ran.stdout[:500]}\n{ran.stdout[len(text):]}instead of\n{wanted[:500]}\n{told}")
-    print(f"{name}: {f'{wrong} runs differ' if wrong else 'as the loop'}{f', {took:.1f} s on 4 nodes' if len(every) == 1 else ''}", flush=True)
+            print(f"{name} on {nodes} nodes: status {ran.returncode}, wrote\n{ran.stdout[:500]}\n{ran.stdout[len(text):]}")
+            print(f"instead of\n{wanted[:500]}\n{told}")
+    lasted = f", {took:.1f} s on {every[0]} nodes" if len(every) == 1 else ""
+    print(f"{name}: {f'{wrong} runs differ' if wrong else 'as the loop'}{lasted}", flush=True)
     return wrong
 
 
@@ -147,7 +151,8 @@ def matrix(name, height, width, many, kind, form, times=1, has_values=False, eve
         numbers = [round(it) for it in exact]
         texts = [f" {float(it / 1000):.6f}" if at % 2 else f" {float(it / 1000):.9e}" for at, it in enumerate(exact)]
         worst = max(abs(round(it) - it) for it in exact)
-        said = f"values times 1000: {sum(it.denominator > 1 for it in exact)} of {many} aren't whole then, off by at most {float(worst / 1000):.3g}\n"
+        broken = sum(it.denominator > 1 for it in exact)
+        said = f"values times 1000: {broken} of {many} aren't whole then, off by at most {float(worst / 1000):.3g}\n"
     body = "".join(f"{r} {c}{v}\n" for r, c, v in zip(rows, columns, texts))
     beside = [it for it in range(many) if form == "symmetric" and rows[it] != columns[it]]
     rows, columns = rows + [columns[it] for it in beside], columns + [rows[it] for it in beside]
@@ -155,10 +160,11 @@ def matrix(name, height, width, many, kind, form, times=1, has_values=False, eve
     x = [draws.below(100) - 50 for _ in range(width)] if has_values else [1] * width
     with tempfile.TemporaryDirectory() as room:
         write(room, "a.mtx", f"%%MatrixMarket matrix coordinate {kind} {form}\n% made by a test\n{height} {width} {many}\n{body}")
-        write(room, "values.txt", "".join(f"{it}\n" for it in x))
-        words = ["a.mtx", *["--times", str(times)] * (times > 1), *["--values", "values.txt"] * has_values, *["--scale", "1000"] * (kind == "real")]
-        # numbers of X are taken times the factor too
-        scale = (1000 if kind == "real" else 10**6) if has_values else 1
+        # one number that isn't whole has all of them taken times the factor
+        scale = 1000 if kind == "real" and has_values else 1
+        write(room, "values.txt", "".join(f"{it}{'.0' * (scale > 1 and not at)}\n" for at, it in enumerate(x)))
+        words = ["a.mtx", *["--times", str(times)] * (times > 1), *["--values", "values.txt"] * has_values]
+        words += ["--scale", "1000"] * (kind == "real")
         if not made("from_matrix_market.py", words, room, said):
             return 1
         wanted = product(rows, columns, numbers, [scale * it for it in x], height, times)
@@ -196,7 +202,8 @@ def graph(name, points, many, form, weights, steps, has_map):
     with tempfile.TemporaryDirectory() as room:
         write(room, "a.graph", f"% made by a test\n{head}\n{body}")
         write(room, "parts.txt", "".join(f"{it * 7 % 5}\n" for it in range(points)))
-        if not made("from_metis.py", ["a.graph", "--steps", str(steps), *["--map", "parts.txt"] * has_map], room, f"sweep.fd: {points} points, {many} edges"):
+        words = ["a.graph", "--steps", str(steps), *["--map", "parts.txt"] * has_map]
+        if not made("from_metis.py", words, room, f"sweep.fd: {points} points, {many} edges"):
             return 1
         return compared(name, room, "sweep.fd", row("X", swept(x, [(*it, w) for it, w in found.items()], steps)), steps)
 
@@ -228,6 +235,7 @@ def meshed(name, room, words, places, kinds, edges, steps, said="", every=(1, 4,
 
 
 RING = [(0, 1), (1, 2), (2, 0)]
+FORMAT = "$MeshFormat\n2.2 0 8\n$EndMeshFormat\n"
 
 
 def triangle(name, side, first, steps, every=(1, 4, 7)):
@@ -235,7 +243,8 @@ def triangle(name, side, first, steps, every=(1, 4, 7)):
     with tempfile.TemporaryDirectory() as room:
         told = "".join(f"{at + first} {x} {y}.0 7 1\n" for at, (x, y) in enumerate(places))
         write(room, "a.node", f"# made by a test\n{len(places)} 2 1 1\n{told}")
-        told = "".join(f"{at + first} {' '.join(str(it - 1 + first) for it in corners)} # a triangle\n" for at, corners in enumerate(triangles))
+        of = [" ".join(str(it - 1 + first) for it in corners) for corners in triangles]
+        told = "".join(f"{at + first} {corners} # a triangle\n" for at, corners in enumerate(of))
         write(room, "a.ele", f"{len(triangles)} 3 0\n{told}")
         return meshed(name, room, ["a.node", "a.ele"], places, [("TRIANGLE", triangles)], edges_of(triangles, RING), steps, every=every)
 
@@ -251,7 +260,8 @@ def gmsh(name, side):
         told = [f"1 1 2 0 1 10 {3 * 2 + 7}", *(f"9 2 2 0 1 {' '.join(str(3 * it + 7) for it in e)}" for e in triangles)]
         told += [f"9 3 1 0 {' '.join(str(3 * it + 7) for it in e)}" for e in squares]
         nodes = "".join(f"{3 * at + 7} {x} {y} 0\n" for at, (x, y) in enumerate(places, 1))
-        text = f"$MeshFormat\n2.2 0 8\n$EndMeshFormat\n$PhysicalNames\n1\n2 1 \"all\"\n$EndPhysicalNames\n$Nodes\n{len(places)}\n{nodes}$EndNodes\n"
+        names = '$PhysicalNames\n1\n2 1 "all"\n$EndPhysicalNames\n'
+        text = f"{FORMAT}{names}$Nodes\n{len(places)}\n{nodes}$EndNodes\n"
         write(room, "a.msh", text + f"$Elements\n{len(told)}\n" + "\n".join(told) + "\n$EndElements\n$NodeData\nwhatever\n")
         kinds = [("TRIANGLE", triangles), ("QUAD", squares)]
         return meshed(name, room, ["a.msh"], [(*it, 0) for it in places], kinds, edges, 3, "1 elements of lower dimension")
@@ -264,14 +274,16 @@ def cubes(name, side):
     steps = [(0, 0), (1, 0), (1, 1), (0, 1)]
     hexas = [[at(x + a, y + b, z + c) for c in (0, 1) for a, b in steps] for x in range(side) for y in range(side) for z in range(side)]
     more = {4: ("TETRA", [1, 2, 5, 7]), 6: ("PRISM", [1, 2, 3, 9, 8, 7]), 7: ("PYRAMID", [1, 2, 3, 4, 9])}
-    edges = {it for it in edges_of([(at(*a), at(*b)) for a in cube(side + 1) for b in cube(side + 1) if sum(abs(p - q) for p, q in zip(a, b)) == 1], [(0, 1)])}
+    near = lambda a, b: sum(abs(p - q) for p, q in zip(a, b)) == 1
+    edges = set(edges_of([(at(*a), at(*b)) for a in cube(side + 1) for b in cube(side + 1) if near(a, b)], [(0, 1)]))
     edges |= {(1, 2), (1, 5), (2, 5), (1, 7), (2, 7), (5, 7)}
     edges |= {(1, 2), (2, 3), (1, 3), (8, 9), (7, 8), (7, 9), (1, 9), (2, 8), (3, 7)}
     edges |= {(1, 2), (2, 3), (3, 4), (1, 4), (1, 9), (2, 9), (3, 9), (4, 9)}
     with tempfile.TemporaryDirectory() as room:
-        told = [f"{it} 5 0 {' '.join(map(str, e))}" for it, e in enumerate(hexas)] + [f"0 {kind} 0 {' '.join(map(str, e))}" for kind, (_, e) in more.items()]
+        told = [f"{it} 5 0 {' '.join(map(str, e))}" for it, e in enumerate(hexas)]
+        told += [f"0 {kind} 0 {' '.join(map(str, e))}" for kind, (_, e) in more.items()]
         nodes = "".join(f"{it} {x} {y} {z}\n" for it, (x, y, z) in enumerate(places, 1))
-        text = f"$MeshFormat\n2.2 0 8\n$EndMeshFormat\n$Nodes\n{len(places)}\n{nodes}$EndNodes\n$Elements\n{len(told)}\n"
+        text = f"{FORMAT}$Nodes\n{len(places)}\n{nodes}$EndNodes\n$Elements\n{len(told)}\n"
         write(room, "a.msh", text + "\n".join(told) + "\n$EndElements\n")
         kinds = [("TETRA", [more[4][1]]), ("HEXA", hexas), ("PRISM", [more[6][1]]), ("PYRAMID", [more[7][1]])]
         return meshed(name, room, ["a.msh"], places, kinds, sorted(edges), 2)
