@@ -42,6 +42,8 @@ examples: ## runs every example, every program, command and message of the pages
 	$(stand)
 	@examples/run.py
 	@docs/run.py
+	@docs/crates.py
+	@docs/pictures.py
 	@tools/run.py
 
 bench: ## times the programs that stand on large inputs, beside a Fortran program, and compares every text
