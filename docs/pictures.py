@@ -64,10 +64,11 @@ def maps():
 def pairs():
     """The three pair lists of the example molecules: atoms on a line, an arc for each pair; on four nodes in blocks."""
     folder, atoms, many = f"{TOP}/examples/molecules", 12, 16
-    first, second = numbers(folder, "la"), numbers(folder, "lb")
+    cells, first, second = numbers(folder, "lc"), numbers(folder, "la"), numbers(folder, "lb")
     for turn in range(3):
         level = 110 + 130 * turn
-        found = [(a, b) for a, b in zip(first[turn * many : (turn + 1) * many], second[turn * many : (turn + 1) * many]) if a != b]
+        listed, now = cells[turn * atoms : (turn + 1) * atoms], slice(turn * many, (turn + 1) * many)
+        found = [(listed[a - 1], listed[b - 1]) for a, b in zip(first[now], second[now]) if a != b]
         far = sum((a - 1) // 3 != (b - 1) // 3 for a, b in found)
         yield text(20, level - 84, f"list {turn + 1}, for four steps: {len(found)} pairs, {far} of atoms of two nodes")
         for a, b in found:
