@@ -54,6 +54,10 @@ for points in (1_000, 25_000, 50_000, 100_000):
     "PROGRAM SMALL\nINTEGER*8 X(1000000), Y(1)\nOUTPUT Y\nDO K = 1, 5000\nFORALL I = 1, 1\nX(I) = K\nEND FORALL\nEND DO\nEND\n"
 )
 
+# many executions of a loop over 16 elements, each of which takes its neighbour's
+write("steps.fd", "PROGRAM STEPS\nINTEGER*8 X(16), Y(16)\nOUTPUT Y\nFORALL I = 1, 16\nX(I) = I\nEND FORALL\n"
+      "DO K = 1, 9999\nFORALL I = 1, 15\nY(I) = Y(I) + X(I+1)\nEND FORALL\nEND DO\nEND\n")
+
 # executions of a loop over one element in a program of as many large arrays as it may have
 arrays = "".join(f"INTEGER*8 A{k}({count})\n" for k in range(1, 65))
 write("many.fd", f"PROGRAM MANY\n{arrays}DO K = 1, 50\nFORALL I = 1, 1\nA1(I) = A1(I) + K\nEND FORALL\nEND DO\nEND\n")

@@ -87,7 +87,11 @@ class Bench:
         self.one("source of 1 MiB, refused at its end", [PLAY, "stops.fd", "--plain"], ".")
         self.one("source of 1 MiB, run", [PLAY, "long.fd", "--plain"], ".")
         self.one("data file of 32 MiB", [PLAY, "large.fd", "--plain"], ".")
-        for name, words in ("mesh of 100000 points", ["--mesh", "7", "--size", "100000"]), ("5000 steps of one element", ["small.fd"]):
+        for name, words in (
+            ("mesh of 100000 points", ["--mesh", "7", "--size", "100000"]),
+            ("5000 steps of one element", ["small.fd"]),
+            ("9999 steps of 16 elements", ["steps.fd"]),
+        ):
             plain = self.one(f"{name}, --plain", [PLAY, *words, "--plain"], ".")
             for nodes in "1", "4", "16":
                 self.one(f"{name}, {nodes} nodes in turns", [PLAY, *words, "--nodes", nodes], ".", plain)
