@@ -1,14 +1,14 @@
-ghost use Rattle.std.specs.Prelude.{◌≡◌, ◌<◌, ◌≤◌, length, map, IfOk};
+ghost use Rattle.std.specs.Prelude.{◌≡◌, ◌<◌, ◌≤◌, length};
 ghost use Rattle.bsp_mail.specs.Mails.{IsFresh};
 ghost use Rattle.bsp_mail.specs.Seats.{IsOpenOn};
 ghost use Rattle.bsp_threads.specs.declared.seat.Standing.TheVariants.{Going};
 ghost use Rattle.bsp_threads.specs.Seats.{IsReady};
 
-use bsp_core::{NodeList, Phased, TakeFault, Want};
+use bsp_core::{Phased, Want};
 use bsp_example::{Voter, voter_list};
 use bsp_mail::{Mail, MailSeat, Queues};
 use bsp_threads::*;
-use chaos_letter::{Kind, Letter, Wanted};
+use chaos_letter::{Kind, Letter};
 use fd_outside::{Gate, OpenGate};
 use fd_words::{Memory, Numbers};
 use std::alloc::Global;
@@ -185,131 +185,5 @@ fn a_stray_letter_stops(rt: HostRuntime) -> Result<(), Fail> {
         _ => assert!(rt; false),
     }
     assert_eq!(rt; seat.standing, Standing::Strayed);
-    Ok(())
-}
-
-// A voter that has memory for so many works, and wants it from then on.
-#[derive(Drop)]
-struct Poor {
-    voter: Voter,
-    works: u32,
-}
-
-impl Phased for Poor {
-    ghost use Rattle.std.specs.Prelude.{length};
-    ghost use Rattle.bsp_example.specs.Rows.{VoterState, VoterPlan, IsVoterPlan, voter_row, voter_holds};
-    ghost use Rattle.bsp_example.specs.Laws.{voter_meets, voter_falls};
-
-    ghost State = { VoterState };
-
-    ghost Plan = { VoterPlan };
-
-    ghost IsPlan = { IsVoterPlan };
-
-    ghost count = { λ plan. length plan };
-
-    ghost rows = { voter_row };
-
-    ghost holds = { voter_holds };
-
-    ghost view = { λ s. s.voter };
-
-    fn next(&self) -> Want {
-        self.voter.next()
-    }
-
-    fn wanted(&self) -> Wanted {
-        self.voter.wanted()
-    }
-
-    fn post(&mut self) -> Letter {
-        self.voter.post()
-    }
-
-    fn take(&mut self, letter: Letter) -> Result<(), TakeFault> {
-        self.voter.take(letter)
-    }
-
-    fn work(&mut self) -> Result<(), Memory> {
-        if self.works == 0 {
-            return Err(Memory);
-        }
-        self.voter.work()?;
-        self.works -= 1;
-        Ok(())
-    }
-
-    ghost rows_meet = { λ plan h t. voter_meets plan t };
-
-    ghost few = { λ plan h. h };
-
-    ghost rows_fall = { λ plan h t. voter_falls plan t };
-}
-
-// Voters, of which one has memory for so many works, and each other one for all.
-fn with_one_poor(
-    alloc: Global,
-    voters: NodeList<Voter>,
-    poor: u64,
-    works: u32,
-) -> Result<NodeList<Poor>, Memory>
-    ensures { IfOk result (λ nodes. map (λ s. s.voter) nodes ≡ map (λ s. s) voters) }
-{
-    let mut nodes = NodeList::new(alloc);
-    for voter in voters.into_vec() {
-        let works = if nodes.len() == poor { works } else { 3 };
-        nodes.push(Poor { voter, works })?;
-    }
-    Ok(nodes)
-}
-
-// Whether a node stands before a work that it has no memory for, and each other one waits or is done.
-fn are_stopped(nodes: &[Poor], poor: usize) -> bool {
-    for (at, node) in nodes.iter().enumerate() {
-        let stands = match node.next() {
-            Want::Work => at == poor && node.works == 0,
-            Want::Take(_) | Want::Done => at != poor,
-            Want::Send(_) => false,
-        };
-        if !stands {
-            return false;
-        }
-    }
-    true
-}
-
-// Whether nodes whose flags are set are stopped, once one of them has no memory left after so many works.
-fn stop_in_the_end<R: Threads + Wait + Sync>(
-    rt: &R,
-    alloc: Global,
-    flags: &[bool],
-    poor: usize,
-    works: u32,
-) -> Result<bool, Memory>
-    requires some { 0 < length flags.now }
-    requires few { length flags.now ≤ 16 }
-{
-    let mut nodes = with_one_poor(alloc, voter_list(alloc, flags)?, poor as u64, works)?;
-    let mut mail = Mail::new(alloc)?;
-    let answer = drive_all(rt, alloc, &mut nodes, &mut mail, &OpenGate);
-    Ok(answer.is_err() && nodes.len() == flags.len() as u64 && are_stopped(nodes.as_slice(), poor))
-}
-
-// One node wants memory, first, last or between, while the others wait for it or are done: want of memory is the answer.
-#[test]
-fn want_of_memory_stops_all(rt: HostRuntime) -> Result<(), Fail> {
-    let flags = [true; 16];
-    for (count, poor, works) in [
-        (1, 0, 0),
-        (2, 0, 0),
-        (2, 1, 0),
-        (2, 0, 1),
-        (3, 1, 1),
-        (3, 2, 2),
-        (16, 0, 2),
-        (16, 15, 0),
-    ] {
-        assert!(rt; stop_in_the_end(&rt, rt.alloc(), &flags[..count], poor, works)?);
-    }
     Ok(())
 }
